@@ -1,13 +1,12 @@
 -- The lines of documents while they are edited.
-use Rattle.std.proofs.Common.{◌≡◌, ◌+◌, ◌*◌, ◌%◌, ◌<◌, ◌≤◌, ℕ, zero, suc, List, [], ◌∷◌, ◌++◌, length, take, drop, codes, decimal, IsAscii, refl, sym, ap, arith, lit<, length-append, length-drop}
+use Rattle.std.proofs.Common.{◌≡◌, ◌+◌, ◌<◌, ◌≤◌, ℕ, zero, suc, List, [], ◌∷◌, ◌++◌, length, take, drop, codes, decimal, IsAscii, arith, length-append, length-drop}
 use Rattle.std.specs.List.{insert_slice}
 use Rattle.std.proofs.lemmas.List.{length-take}
 use Rattle.std.proofs.lemmas.Str.{IsAscii-append, IsAscii-drop, IsAscii-take}
 use Rattle.std.proofs.lemmas.Str.Ascii.{IsAscii-cons, IsAscii-nil}
 use Rattle.std.proofs.lemmas.Fmt.{IsAscii-decimal, length-decimal-le}
 use Rattle.std.specs.String.Boundary.{IsSplitPoint}
-use Rattle.message_generator.specs.Draws.{drawn, next_state}
-use Rattle.message_generator.specs.Drafts.{IsPlainLine, column_of, letter_of, edited, edited_times, first_draft, first_line}
+use Rattle.message_generator.specs.Drafts.{IsPlainLine, column_of, letter_of, edited, edited_times, first_line}
 use Rattle.message_generator.specs.declared.draft.Draft.{Draft}
 
 pub column_within : (draft : Draft) → column_of draft ≤ length draft.line

@@ -1,5 +1,5 @@
 -- Frames and texts, one behind another.
-use Rattle.std.proofs.Common.{Bool, false, cond, ◌≡◌, ◌+◌, ◌-◌, ◌<◌, ◌≤◌, ℕ, zero, suc, List, [], ◌∷◌, ◌++◌, length, refl, sym, ap, subst, ◌∙◌, arith, append_assoc, append-nil, add-one, length-append, codes, decimal}
+use Rattle.std.proofs.Common.{Bool, false, cond, ◌≡◌, ◌+◌, ◌-◌, ◌<◌, ◌≤◌, ℕ, zero, suc, List, [], ◌∷◌, ◌++◌, length, sym, ap, ◌∙◌, arith, append_assoc, append-nil, add-one, length-append, codes, decimal}
 use Rattle.std.proofs.lemmas.List.Concat.{flat_map-append}
 use Rattle.lsp_frame.specs.Written.{frame_for, body_of, header_for}
 use Rattle.lsp_frame.specs.Frames.{empty_line}
@@ -15,8 +15,12 @@ frames-append first second = flat_map-append (λ message. frame_for (body_of mes
 pub frame_some : (message : Message) (later : List Message) → 0 < length (frames_of (message ∷ later))
 unfolding header_for
 frame_some message later = let body = body_of message in
-    omega (arith, length-append (frame_for body) (frames_of later), length-append (header_for (length body)) body,
-    length-append (codes "Content-Length: " ++ decimal (length body)) empty_line)
+    omega (
+      arith,
+      length-append (frame_for body) (frames_of later),
+      length-append (header_for (length body)) body,
+      length-append (codes "Content-Length: " ++ decimal (length body)) empty_line,
+    )
 
 -- one edit more
 pub edited_more : (count : ℕ) (first draft next : Draft) → draft ≡ edited_times count first → next ≡ edited draft → next ≡ edited_times (count + 1) first

@@ -1,6 +1,5 @@
 -- The messages can be written.
 use Rattle.std.proofs.Common.{ℕ, List, refl, arith}
-use Rattle.serde_json.specs.Data.{Data, null}
 use Rattle.lsp_frame.specs.Written.{IsWritable, value_depth}
 use Rattle.message_generator.specs.Messages.{changed_params, hovered_params, opened_params}
 

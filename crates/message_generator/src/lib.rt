@@ -5,11 +5,13 @@
 mod draft;
 mod draws;
 mod generator;
+mod laws;
 mod messages;
 mod texts;
 mod writing;
 
 pub use draft::Draft;
 pub use generator::Generator;
+pub use laws::clients_can_be_read;
 pub use plain::NoMemory;
 pub use texts::texts_hash;

@@ -1,4 +1,4 @@
-use Rattle.std.proofs.Common.{◌+◌, refl, arith}
+use Rattle.std.proofs.Common.{◌+◌, arith}
 use Rattle.message_generator.specs.Drafts.{edited_times, first_draft}
 use Rattle.message_generator.proofs.Lines.{edited_times_plain, first_plain, plain_within}
 use Rattle.message_generator.proofs.Streams.{edited_more}

@@ -1,4 +1,4 @@
-use Rattle.std.proofs.Common.{◌≡◌, ◌++◌, ◌∷◌, [], ◌-◌, List, ℕ, append-nil, ap, subst, ◌∙◌, arith}
+use Rattle.std.proofs.Common.{◌≡◌, ◌++◌, ◌∷◌, [], ◌-◌, List, ℕ, ap, subst, ◌∙◌, arith}
 use Rattle.sha1.specs.Sha1.{Holds, sha1}
 use Rattle.message_generator.specs.Drafts.{texts_from}
 use Rattle.message_generator.proofs.Streams.{texts_done, texts_more}
@@ -13,9 +13,13 @@ pub loop-place-preserved : goal.loop-place-preserved
 loop-place-preserved c =
     let fed = c.loop-place.invariant.0 in
     let line : Holds c.update.new.self (fed ++ c.in_ok-last.last.line) =
-    subst (λ (bytes : List ℕ). Holds c.update.new.self (fed ++ bytes)) (c.as_bytes.ensures.value ∙ c.as_str.ensures.value) (c.update.ensures fed c.loop-place.invariant.1.0) in
-    ((fed ++ c.in_ok-last.last.line) ++ 10 ∷ [], (c.update-in-loop-place.ensures (fed ++ c.in_ok-last.last.line) line,
-    texts_more c.args.count c.loop-place.place c.loop-place.state c.in_ok-last.last fed _ c.loop-place-test.true c.in_ok-last.ensures c.loop-place.invariant.1.1))
+    subst (λ (bytes : List ℕ). Holds c.update.new.self (fed ++ bytes)) (c.as_bytes.ensures.value ∙ c.as_str.ensures.value) (c.update.ensures fed c.loop-place.invariant.1.0) in (
+      (fed ++ c.in_ok-last.last.line) ++ 10 ∷ [],
+      (
+        c.update-in-loop-place.ensures (fed ++ c.in_ok-last.last.line) line,
+        texts_more c.args.count c.loop-place.place c.loop-place.state c.in_ok-last.last fed _ c.loop-place-test.true c.in_ok-last.ensures c.loop-place.invariant.1.1,
+      ),
+    )
 
 pub returns : goal.returns
 returns c =
