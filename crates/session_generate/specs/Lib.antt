@@ -1,0 +1,3 @@
+pub mod Settings
+pub mod Summary
+pub mod Generating
