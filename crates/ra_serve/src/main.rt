@@ -10,6 +10,7 @@ const PROGRAM: Program<'static> = Program {
 ra_serve: a language server over standard input and output.
 
 usage: ra_serve lsp | session | record | replay
+       ra_serve generate N
        ra_serve --explain | --help | --version
 
 `lsp` is what an editor starts: it reads framed messages of the Language Server Protocol, from `initialize` on, and
@@ -18,6 +19,9 @@ writes framed responses. `session` begins behind that handshake; the root of its
 `record` reads what `session` reads, and writes the session's record in place of its responses. `replay` reads a
 record and writes what its session writes. `--explain` reads a record and writes a line for each event, message and
 order of each turn of its session.
+
+`generate N` reads nothing: it runs a session of its own over N documents, from 1 to 20,000, with ten edits and a hover
+each, and writes how many there were, and hashes of the texts and of what the session wrote.
 
 status: 0 the session ended by `exit`               7 the output failed
         2 bad words                                 8 counter exhausted

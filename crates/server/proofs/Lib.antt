@@ -2,6 +2,7 @@ pub mod Behind
 pub mod Folds
 pub mod Handing
 pub mod Idle
+pub mod Numerals
 pub mod Openings
 pub mod Replying
 pub mod Streams

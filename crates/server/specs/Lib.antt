@@ -7,3 +7,4 @@ pub mod Stages
 pub mod Status
 pub mod Streams
 pub mod Talking
+pub mod Words

@@ -3,17 +3,18 @@ use Rattle.std.specs.Prelude.{◌≡◌, ℕ, List, [], ◌∷◌, ◌++◌, Boo
 use Rattle.lsp_frame.specs.Reader.{Reader}
 use Rattle.ra_config.specs.Config.{ConfigData, config_at}
 use Rattle.session_port.specs.Record.{HostCall, given_in}
+use Rattle.session_port.specs.declared.cause.HostError.{HostError}
 use Rattle.session.specs.Course.{course_of, stop_of, exit}
 use Rattle.session.specs.Headline.{EndsByCause}
 use Rattle.session.specs.Ran.{RanSession}
 use Rattle.session_record.specs.declared.start.StartConfig.{StartConfig}
 use Rattle.session_record.specs.declared.start.StartConfig.TheVariants.{New}
+use Rattle.session_generate.specs.Generating.{Generates}
 use Rattle.session_replay.specs.Recording.{RecordsSession}
 use Rattle.session_replay.specs.Replaying.{Replays}
 use Rattle.session_replay.specs.declared.error.ReplayError.{ReplayError}
 use Rattle.session.specs.Meaning.{Meaning}
 use Rattle.session.specs.Run.{Told, empty_reader}
-use Rattle.session.specs.Texts.{same_text}
 use Rattle.session.specs.SessionError.{SessionError}
 use Rattle.session.specs.SessionError.TheVariants.{ClientExited, BadFrame, BadMessage, HostFault, WriteFault, Exhausted}
 use Rattle.session.specs.SessionError.TheVariants.{NoMemory}
@@ -22,22 +23,10 @@ use Rattle.server.specs.Opening.{Opens}
 use Rattle.server.specs.Stages.{Setup}
 use Rattle.server.specs.declared.handshake.opening.Opening.{Opening}
 use Rattle.server.specs.declared.handshake.opening.Opening.TheVariants.{Begun, Left}
-use Rattle.server.specs.Status.{bad_words, status_of, status_of_replay}
+use Rattle.server.specs.Status.{bad_words, status_of, status_of_generate, status_of_replay}
 use Rattle.server.specs.declared.words.Asked.{Asked}
 use Rattle.server.specs.declared.words.Asked.TheVariants.{Session, Lsp, Record as RecordWord, Replay as ReplayWord}
-use Rattle.server.specs.declared.words.Asked.TheVariants.{Unknown}
-
--- what one word asks for
-abbrev pub asked_by_word : List ℕ → Asked
-asked_by_word word = if same_text word (codes "session") then Session else if same_text word (codes "lsp") then Lsp
-    else if same_text word (codes "record") then RecordWord else if same_text word (codes "replay") then ReplayWord
-    else Unknown
-
--- what words ask for: a word alone is known or not
-abbrev pub asked_by : List (List ℕ) → Asked
-asked_by [] = Unknown
-asked_by (word ∷ []) = asked_by_word word
-asked_by (word ∷ other ∷ words) = Unknown
+use Rattle.server.specs.declared.words.Asked.TheVariants.{Generate, Unknown}
 
 -- how many threads the program's sessions may use
 abbrev pub thread_count : ℕ
@@ -108,6 +97,13 @@ pub record EndsReplay (P : Result ⊤ ReplayError → Type 0) (status : ℕ) : T
   pub status_is : status ≡ status_of_replay outcome
   pub did : P outcome
 
+-- a session was generated, on a host of its own, and its summary written
+pub record EndsGenerate (meaning : Meaning) (count : ℕ) (old new : Told) (SinkFailed : Type 0) (status : ℕ) : Type 0 where
+  pub outcome : Result ⊤ HostError
+  pub status_is : status ≡ status_of_generate outcome
+  pub untouched : new.calls ≡ old.calls
+  pub did : Generates meaning count old.turns new.turns SinkFailed outcome
+
 -- or the words are none that the program knows, and nothing was read or written
 pub record KnewNoWord (old new : Told) (status : ℕ) : Type 0 where
   pub status_is : status ≡ bad_words
@@ -123,4 +119,6 @@ Serves RecordWord info meaning old new honest HostFailed SinkFailed status =
     EndsReplay (RecordsSession meaning session_start session_config old new honest HostFailed SinkFailed) status
 Serves ReplayWord info meaning old new honest HostFailed SinkFailed status =
     EndsReplay (Replays meaning old new HostFailed SinkFailed) status
+Serves (Generate count) info meaning old new honest HostFailed SinkFailed status =
+    EndsGenerate meaning count old new SinkFailed status
 Serves Unknown info meaning old new honest HostFailed SinkFailed status = KnewNoWord old new status

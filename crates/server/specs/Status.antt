@@ -1,5 +1,7 @@
 -- The status that a session ends with, and what is said of it.
 use Rattle.std.specs.Prelude.{ℕ, List, [], codes, ⊤, Result, Ok, Err, ◌==◌, if◌then◌else◌}
+use Rattle.session_port.specs.declared.cause.HostError.{HostError}
+use Rattle.session_port.specs.declared.cause.HostError.TheVariants.{Failed, NoMemory as NoMemoryOfHost}
 use Rattle.session.specs.SessionError.{SessionError}
 use Rattle.session.specs.SessionError.TheVariants.{ClientExited, BadFrame, BadMessage, HostFault, WriteFault, Exhausted}
 use Rattle.session.specs.SessionError.TheVariants.{NoMemory}
@@ -26,6 +28,12 @@ status_of_replay (Err (Session error)) = status_of (Err error)
 status_of_replay (Err BadRecord) = 10
 status_of_replay (Err Unrecordable) = 11
 status_of_replay (Err TooLong) = 12
+
+-- the same of one that is generated
+abbrev pub status_of_generate : Result ⊤ HostError → ℕ
+status_of_generate (Ok x) = 0
+status_of_generate (Err Failed) = 7
+status_of_generate (Err NoMemoryOfHost) = 9
 
 -- what a program says of its status: nothing where all is well
 abbrev pub status_text : ℕ → List ℕ

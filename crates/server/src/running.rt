@@ -7,7 +7,8 @@ ghost use Rattle.session.specs.Run.{told_of};
 ghost use Rattle.server.specs.CommandLine.{purpose_of, texts_of};
 ghost use Rattle.server.specs.Running.{Prints};
 ghost use Rattle.session_explain.specs.Explaining.{Explains};
-ghost use Rattle.server.specs.Serving.{EndsReplay, Serves, asked_by};
+ghost use Rattle.server.specs.Serving.{EndsReplay, Serves};
+ghost use Rattle.server.specs.Words.{asked_by};
 ghost use Rattle.server.specs.declared.command_line.Purpose.TheVariants.{Help, Version, Explain, Serve, Unreadable};
 ghost use Rattle.server.specs.Status.{bad_words};
 

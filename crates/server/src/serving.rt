@@ -6,17 +6,19 @@ ghost use Rattle.session.specs.Meaning.{meaning_of};
 ghost use Rattle.session.specs.Run.{empty_reader, told_of};
 ghost use Rattle.session.specs.Ran.{RanSession};
 ghost use Rattle.session_replay.specs.Recording.{RecordsSession};
-ghost use Rattle.server.specs.Serving.{asked_by, session_config, session_start, EndsWith, Serves, Welcomed};
+ghost use Rattle.server.specs.Serving.{session_config, session_start, EndsGenerate, EndsWith, Serves, Welcomed};
+ghost use Rattle.server.specs.Words.{asked_by};
 ghost use Rattle.server.specs.Status.{status_of, bad_words};
 
 use crate::handshake::{Opening, initialize};
-use crate::statuses::{BAD_WORDS, status_of, status_of_replay};
+use crate::statuses::{BAD_WORDS, status_of, status_of_generate, status_of_replay};
 use crate::words::{Asked, asked_by};
 use analysis_host::Analysis;
 use docs_vfs::VfsPath;
 use plain::Text;
 use ra_config::Config;
 use session::{SessionError, main_loop, main_loop_from};
+use session_generate::generate;
 use session_port::{Host, Sink};
 use session_replay::{ReplayError, record, replay};
 use std::alloc::{AllocError, Global};
@@ -101,7 +103,8 @@ fn run_record<H: Host<A>, S: Sink, A: Analysis>(
 
 /// Does what the words say, and answers the status to end with, on the host and the sink that are handed in: `session`
 /// runs one session, to its end, with `/w` as the root; `lsp` makes the handshake with the client, and then runs the
-/// session that it begins. All other words give the status 2.
+/// session that it begins; `record` and `replay` are for records of sessions; `generate` with a number runs a session of
+/// its own and writes a summary. All other words give the status 2.
 pub fn serve<H: Host<A>, S: Sink, A: Analysis>(
     alloc: Global,
     words: &[Text],
@@ -130,6 +133,7 @@ pub fn serve<H: Host<A>, S: Sink, A: Analysis>(
         Asked::Lsp => status_of(run_lsp(alloc, host, sink, analysis)),
         Asked::Record => status_of_replay(run_record(alloc, host, sink, analysis)),
         Asked::Replay => status_of_replay(replay(alloc, host, sink, analysis)),
+        Asked::Generate { count } => status_of_generate(generate(alloc, count, sink, analysis)),
         Asked::Unknown => BAD_WORDS,
     }
 }

@@ -1,8 +1,9 @@
 // Statuses of the program.
 ghost use Rattle.std.specs.Prelude.{◌≡◌};
-ghost use Rattle.server.specs.Status.{status_of, status_of_replay, status_text};
+ghost use Rattle.server.specs.Status.{status_of, status_of_generate, status_of_replay, status_text};
 
 use session::SessionError;
+use session_port::HostError;
 use session_replay::ReplayError;
 
 /// The status where the words are none that the program knows.
@@ -40,6 +41,17 @@ pub fn status_of_replay(outcome: Result<(), ReplayError>) -> u8
         Err(ReplayError::BadRecord) => 10,
         Err(ReplayError::Unrecordable) => 11,
         Err(ReplayError::TooLong) => 12,
+    }
+}
+
+/// The status that a session ends with which is generated: where the output failed, or memory has run out.
+pub(crate) fn status_of_generate(outcome: Result<(), HostError>) -> u8
+    ensures { result ≡ status_of_generate outcome }
+{
+    match outcome {
+        Ok(()) => 0,
+        Err(HostError::Failed) => WRITE_FAULT,
+        Err(HostError::NoMemory) => NO_MEMORY,
     }
 }
 
