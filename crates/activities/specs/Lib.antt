@@ -1,0 +1,12 @@
+pub mod Activities
+pub mod CheckNames
+pub mod CheckRuns
+pub mod Checks
+pub mod Discovery
+pub mod DiscoveryRuns
+pub mod Priming
+pub mod PrimingRuns
+pub mod Settings
+pub mod TestRun
+pub mod TestRuns
+pub mod Announced
