@@ -122,6 +122,9 @@ end_checks messages = list_any ends_check messages
 
 -- ---- which restart and are cancelled
 
+abbrev pub ids_of : Checks → List ℕ
+ids_of checks = map (λ (check : ℕ × List ℕ). check.0) checks.set
+
 abbrev pub restart : ℕ × List ℕ → Telling
 restart check = RestartCheck check.0 (Workspace None)
 

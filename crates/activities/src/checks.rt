@@ -2,7 +2,7 @@
 ghost use Rattle.std.specs.Prelude.{◌≡◌, map, length, unwrap_or, IfOk};
 ghost use Rattle.std.specs.FinMap as by_key;
 ghost use Rattle.std.specs.Option.{option_copied};
-ghost use Rattle.activities.specs.Checks.{no_checks, is_checked, checks_from, checks_for, checks_set, command_of, title_of, failed, error_of, with_error, ended, with_command, begun, reported, progressed, is_end, ends_check, end_checks, all_restarted, is_set, file_restarted, all_cancelled, cancelled_by, cancelled_at};
+ghost use Rattle.activities.specs.Checks.{no_checks, is_checked, checks_from, checks_for, checks_set, command_of, title_of, failed, error_of, with_error, ended, with_command, begun, reported, progressed, is_end, ends_check, end_checks, ids_of, all_restarted, is_set, file_restarted, all_cancelled, cancelled_by, cancelled_at};
 ghost use Rattle.activities.specs.Announced.{Announces};
 
 use crate::check_names::{command_set, id_in, title_by, token_of};
@@ -146,10 +146,21 @@ impl Checks {
     }
 
     /// Those that are set, each with the folder that it is for.
-    pub fn set(&self) -> &[(u64, VfsPath)]
+    pub fn all(&self) -> &[(u64, VfsPath)]
         ensures { result.now ≡ self.now.set }
     {
         self.set.as_slice()
+    }
+
+    /// Their ids, among which a job finds those that restart for a saved file.
+    pub fn ids(&self) -> Result<Items<u64>, NoMemory>
+        ensures { IfOk result (λ ids. ids ≡ ids_of self.now) }
+    {
+        let mut ids = Items::new(self.alloc);
+        for check in self.set.as_slice() {
+            ids.push(check.0)?;
+        }
+        Ok(ids)
     }
 
     /// Why the last that failed did, unless one went well since.

@@ -1,5 +1,5 @@
 // What the calls come to.
-ghost use Rattle.std.specs.Prelude.{◌≡◌, ℕ, ◌+◌, ◌-◌, ◌<◌, ◌≤◌, ◌^◌, true, false, List, [], ◌∷◌, ◌++◌, map, All, Option, None, Some, slice_get, if◌then◌else◌, suc};
+ghost use Rattle.std.specs.Prelude.{◌≡◌, ℕ, ◌+◌, ◌-◌, ◌<◌, ◌≤◌, ◌^◌, true, false, List, [], ◌∷◌, ◌++◌, All, Option, None, Some, slice_get, if◌then◌else◌, suc};
 ghost use Rattle.std.specs.List.{count_by};
 ghost use Rattle.op_board.specs.QueueRuns.{running as running_in};
 ghost use Rattle.project_model.specs.declared.workspace.ProjectWorkspace.{ProjectWorkspace};
@@ -9,7 +9,7 @@ ghost use Rattle.session_port.specs.declared.news.CheckProgress.TheVariants.{Did
 ghost use Rattle.activities.specs.CheckNames.{token_of};
 ghost use Rattle.activities.specs.CheckRuns.{CheckAct, check_step, checks_after, Rises, IsOfWorkspace, IsOfSet, GoesOn};
 ghost use Rattle.activities.specs.CheckRuns.CheckAct.{Progresses};
-ghost use Rattle.activities.specs.Checks.{Checks, is_checked, is_given, checks_for, is_end, is_set, cancelled_at};
+ghost use Rattle.activities.specs.Checks.{Checks, ids_of, is_checked, is_given, checks_for, is_end, is_set, cancelled_at};
 ghost use Rattle.activities.specs.DiscoveryRuns.{DiscoveryAct, discovery_after, orders_given, ends_heard, begins_told, ends_told, going_on};
 ghost use Rattle.activities.specs.Priming.{Priming, asked_if, is_due, kept_of, prime_told};
 ghost use Rattle.activities.specs.PrimingRuns.{PrimeAct, priming_after, jobs_started, jobs_ended, without_passed};
@@ -23,7 +23,7 @@ ghost use Rattle.activities.specs.declared.telling.Telling.TheVariants.{Begin, R
 
 /// After every run the ids of the checks that are set rise, so no two are the same.
 pub fn ids_are_distinct_and_rise()
-    ensures { (run : List CheckAct) → Rises (map (λ check. check.0) (checks_after run).set) }
+    ensures { (run : List CheckAct) → Rises (ids_of (checks_after run)) }
 {}
 
 /// Where one check runs for all workspaces, it is for the root path. Else each check is of the workspace at its place, and

@@ -73,6 +73,15 @@ fn progress(alloc: Global, word: &str, more: &str) -> Option<CheckProgress> {
     }
 }
 
+// The ids of the checks, each as if it were cancelled.
+fn ids(alloc: Global, checks: &Checks) -> Option<Items<Telling>> {
+    let mut told = Items::new(alloc);
+    for id in checks.ids().ok()?.as_slice() {
+        told.push(Telling::CancelCheck(*id)).ok()?;
+    }
+    Some(told)
+}
+
 /// An act on checks.
 pub fn check_act(
     alloc: Global,
@@ -89,6 +98,7 @@ pub fn check_act(
         "restart" => checks.restart_all().ok(),
         "save" => checks.restart_for(settings, path(alloc, rest)?).ok()?,
         "cancel" => checks.cancel_all().ok(),
+        "ids" => ids(alloc, checks),
         "token" => checks.cancel(rest).ok(),
         _ => {
             let (id, more) = cut(rest, " ");

@@ -26,6 +26,7 @@ stop 0 > end run it (#1) under rust-analyzer/flycheck/0
 start 18446744073709551615 x > begin x (#18446744073709551616) under rust-analyzer/flycheck/18446744073709551615
 restart > restart 0 all; restart 1 all
 cancel > cancel 0; cancel 1
+ids > cancel 0; cancel 1
 settings {\"check\":{\"invocationStrategy\":\"once\",\"command\":\"clippy\"}} > 
 set json cargo file > set 0/w
 finish 0 bad > end cargo clippy under rust-analyzer/flycheck/0
