@@ -2,7 +2,7 @@
 use Rattle.std.proofs.Common.{◌≡◌, ℕ, ◌+◌, ◌-◌, Bool, true, false, List, [], ◌∷◌, ◌++◌, refl, ap, sym, ◌∙◌, ⊎_elim, arith}
 use Rattle.std.specs.Prelude.{cond, ◌==◌, Option}
 use Rattle.std.specs.List.{count_by}
-use Rattle.std.proofs.lemmas.Bool.{cond-true, cond-false, true≢false}
+use Rattle.std.proofs.lemmas.Bool.{cond-true, cond-false, true≢false, eq-eqb}
 use Rattle.std.proofs.lemmas.Bool.Decides.{eqb_tells}
 use Rattle.session_port.specs.declared.news.TestOutput.{TestOutput}
 use Rattle.session_port.specs.declared.news.TestOutput.TheVariants.{Test, Suite, Finished, Custom}
@@ -117,7 +117,10 @@ module _ (before : List TestAct) (included excluded : Option (List (List ℕ))) 
       let started : (run_asked included excluded (more + 1) (tests_after before)).state.remaining ≡ more + 1 =
       ap (λ (told : Announced Tests). told.state.remaining) (cond-false (more + 1 == 0) _ _ (one_more more)) in
       omega (arith, started)
-  run_waits (Runs i e n ∷ since) none = absurd none
+  run_waits (Runs i e n ∷ since) none =
+      let kept : (run_asked i e n (since_start since)).state.remaining ≡ (since_start since).remaining =
+      ap (λ (told : Announced Tests). told.state.remaining) (cond-true (n == 0) _ _ (eq-eqb n 0 none.0)) in
+      kept ∙ run_waits since none.1
   run_waits (Aborts ∷ since) none = run_waits since none
   run_waits (Tells message ∷ since) none =
       heard_left message.target message.output (since_start since) (programs_ended since) (run_waits since none)

@@ -1,5 +1,5 @@
 -- Runs of the calls on the run of tests: what they did, one act after another. A run has its last act first.
-use Rattle.std.specs.Prelude.{ℕ, ◌+◌, Bool, true, false, List, [], ◌∷◌, Option, if◌then◌else◌}
+use Rattle.std.specs.Prelude.{◌≡◌, ℕ, ◌+◌, Bool, true, false, List, [], ◌∷◌, Option, if◌then◌else◌}
 use Rattle.std.specs.List.{count_by}
 use Rattle.session_port.specs.declared.news.TestMsg.{TestMsg}
 use Rattle.session_port.specs.declared.news.TestOutput.{TestOutput}
@@ -65,8 +65,8 @@ programs_ended [] = 0
 programs_ended (Tells message ∷ before) = ends_program message.output + programs_ended before
 programs_ended (act ∷ before) = programs_ended before
 
--- no run is asked for
+-- no run begins, since none is asked for where there is a workspace
 abbrev pub StartsNone : List TestAct → Type 0
 StartsNone [] = Unit {0}
-StartsNone (Runs included excluded workspaces ∷ before) = ⊥
+StartsNone (Runs included excluded workspaces ∷ before) = (workspaces ≡ 0) × StartsNone before
 StartsNone (act ∷ before) = StartsNone before

@@ -1,5 +1,5 @@
 // What the calls come to.
-ghost use Rattle.std.specs.Prelude.{◌≡◌, ℕ, ◌+◌, ◌-◌, ◌<◌, ◌≤◌, ◌^◌, true, false, List, [], ◌∷◌, ◌++◌, All, Option, None, Some, slice_get, if◌then◌else◌, suc};
+ghost use Rattle.std.specs.Prelude.{◌≡◌, ℕ, ◌+◌, ◌-◌, ◌<◌, ◌≤◌, ◌^◌, true, false, List, [], ◌∷◌, ◌++◌, All, Option, None, Some, slice_get, if◌then◌else◌};
 ghost use Rattle.std.specs.List.{count_by};
 ghost use Rattle.op_board.specs.QueueRuns.{running as running_in};
 ghost use Rattle.project_model.specs.declared.workspace.ProjectWorkspace.{ProjectWorkspace};
@@ -11,7 +11,7 @@ ghost use Rattle.activities.specs.CheckRuns.{CheckAct, check_step, checks_after,
 ghost use Rattle.activities.specs.CheckRuns.CheckAct.{Progresses};
 ghost use Rattle.activities.specs.Checks.{Checks, ids_of, is_checked, is_given, checks_for, is_end, is_set, cancelled_at};
 ghost use Rattle.activities.specs.DiscoveryRuns.{DiscoveryAct, discovery_after, orders_given, ends_heard, begins_told, ends_told, going_on};
-ghost use Rattle.activities.specs.Priming.{Priming, asked_if, is_due, kept_of, prime_told};
+ghost use Rattle.activities.specs.Priming.{Priming, is_due, kept_of, prime_told};
 ghost use Rattle.activities.specs.PrimingRuns.{PrimeAct, priming_after, jobs_started, jobs_ended, without_passed};
 ghost use Rattle.activities.specs.Settings.{runs_once, words_set};
 ghost use Rattle.activities.specs.TestRun.{Tests};
@@ -49,9 +49,13 @@ pub fn a_check_ends_under_the_title_that_it_began_with()
     ensures { (before since : List CheckAct) (then_set now_set : ConfigData) (id : ℕ) (command : List ℕ) (end : CheckProgress)
         → All (GoesOn id) since → is_end end ≡ true
         → (title : List ℕ)
-        × ((check_step (Progresses then_set id (DidStart command)) (checks_after before)).tellings ≡ Begin title (Some (token_of id)) None ∷ [])
-        × ((check_step (Progresses now_set id end) (checks_after (since ++ Progresses then_set id (DidStart command) ∷ before))).tellings ≡ End title (Some (token_of id)) None ∷ [])
-        × ((name : List ℕ) → (check_step (Progresses now_set id (DidCheckCrate name)) (checks_after (since ++ Progresses then_set id (DidStart command) ∷ before))).tellings ≡ Report title (Some (token_of id)) (Some name) None ∷ []) }
+        × ((check_step (Progresses then_set id (DidStart command)) (checks_after before)).tellings
+        ≡ Begin title (Some (token_of id)) None ∷ [])
+        × ((check_step (Progresses now_set id end) (checks_after (since ++ Progresses then_set id (DidStart command) ∷ before))).tellings
+        ≡ End title (Some (token_of id)) None ∷ [])
+        × ((name : List ℕ)
+        → (check_step (Progresses now_set id (DidCheckCrate name)) (checks_after (since ++ Progresses then_set id (DidStart command) ∷ before))).tellings
+        ≡ Report title (Some (token_of id)) (Some name) None ∷ []) }
 {}
 
 /// The token under which a check is told cancels this check and no other, where its id has at most 32 bits.
@@ -67,7 +71,8 @@ pub fn a_run_of_tests_ends_once()
     ensures stops { (act : TestAct) (tests : Tests) → tests.active ≡ false → count_by stops_run (test_step act tests).tellings ≡ 0 }
 {}
 
-/// What remains of a run of tests is a program for each workspace less those that have ended since, never below none.
+/// What remains of a run of tests is a program for each workspace less those that have ended since, never below none, until
+/// another begins.
 pub fn a_run_of_tests_has_a_program_for_each_workspace()
     ensures { (before since : List TestAct) (include exclude : Option (List (List ℕ))) (more : ℕ) → StartsNone since
         → (tests_after (since ++ Runs include exclude (more + 1) ∷ before)).remaining ≡ (more + 1) - programs_ended since }
