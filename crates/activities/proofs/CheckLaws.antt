@@ -1,6 +1,8 @@
 -- The ids of checks rise, only checks that are set restart, and a check ends under the title that it began with.
-use Rattle.std.proofs.Common.{◌≡◌, ◌≢◌, ℕ, ◌+◌, ◌<◌, ◌^◌, Bool, true, false, List, [], ◌∷◌, ◌++◌, length, map, refl, ap, sym, ◌∙◌, subst, arith, suc, zero, add-zero, All, get_or}
-use Rattle.std.specs.Prelude.{cond, ◌==◌, ◌&&◌, ltb, Option, None, Some, unwrap_or, option_and_then, slice_get, Result, Ok, Err}
+use Rattle.std.proofs.Common.{◌≡◌, ◌≢◌, ℕ, ◌+◌, ◌<◌, ◌^◌, Bool, true, false, List, [], ◌∷◌, ◌++◌, length, map, refl, ap}
+use Rattle.std.proofs.Common.{sym, ◌∙◌, subst, arith, suc, zero, add-zero, All, get_or}
+use Rattle.std.specs.Prelude.{cond, ◌==◌, ◌&&◌, ltb, Option, None, Some, unwrap_or, option_and_then, slice_get, Result}
+use Rattle.std.specs.Prelude.{Ok, Err}
 use Rattle.std.specs.FinMap as by_key
 use Rattle.std.specs.Fmt.{decimal}
 use Rattle.std.specs.Ordering.{nat_cmp, eq_by_cmp}
@@ -14,14 +16,18 @@ use Rattle.project_model.specs.declared.check_scope.CheckScope.TheVariants.{Work
 use Rattle.project_model.specs.declared.workspace.ProjectWorkspace.{ProjectWorkspace}
 use Rattle.ra_config.specs.Config.{ConfigData}
 use Rattle.session_port.specs.declared.news.CheckProgress.{CheckProgress}
-use Rattle.session_port.specs.declared.news.CheckProgress.TheVariants.{DidStart, DidCheckCrate, DidCancel, DidFailToRestart, DidFinish}
+use Rattle.session_port.specs.declared.news.CheckProgress.TheVariants.{DidStart, DidCheckCrate, DidCancel}
+use Rattle.session_port.specs.declared.news.CheckProgress.TheVariants.{DidFailToRestart, DidFinish}
 use Rattle.activities.specs.CheckNames.{command_set, title_by, token_of, token_front, number_in, is_numeral, id_in}
-use Rattle.activities.specs.CheckRuns.{CheckAct, check_step, checks_after, those_of, Rises, IsOfWorkspace, IsOfSet, GoesOn}
+use Rattle.activities.specs.CheckRuns.{CheckAct, check_step, checks_after, those_of, Rises, IsOfWorkspace, IsOfSet}
+use Rattle.activities.specs.CheckRuns.{GoesOn}
 use Rattle.activities.specs.CheckRuns.CheckAct.{Sets, Progresses, RestartsAll, Saves, CancelsAll, Cancels}
-use Rattle.activities.specs.Checks.{Checks, is_checked, is_given, checks_from, checks_for, progressed, restart, cancel, is_set, cancelled_at, cancelled_by, command_of, title_of, is_end}
+use Rattle.activities.specs.Checks.{Checks, is_checked, is_given, checks_from, checks_for, progressed, restart, cancel}
+use Rattle.activities.specs.Checks.{is_set, cancelled_at, cancelled_by, command_of, title_of, is_end}
 use Rattle.activities.specs.Settings.{runs_once, words_set}
 use Rattle.activities.specs.declared.telling.Telling.{Telling}
-use Rattle.activities.specs.declared.telling.Telling.TheVariants.{Begin, Report, End, SetChecks, RestartCheck, CancelCheck}
+use Rattle.activities.specs.declared.telling.Telling.TheVariants.{Begin, Report, End, SetChecks, RestartCheck}
+use Rattle.activities.specs.declared.telling.Telling.TheVariants.{CancelCheck}
 use Rattle.activities.proofs.TestLaws.{either}
 use Rattle.activities.proofs.Tokens.{behind-append, spells}
 
@@ -31,7 +37,8 @@ ids_of set = map (λ (check : ℕ × List ℕ). check.0) set
 -- ---- the ids rise
 
 module _ (overridden : Bool) where
-  above : (low place : ℕ) (present : List ProjectWorkspace) → low < place → All (λ id. low < id) (ids_of (checks_from overridden place present))
+  above : (low place : ℕ) (present : List ProjectWorkspace) → low < place
+      → All (λ id. low < id) (ids_of (checks_from overridden place present))
   above low place [] less = All-nil (λ id. low < id)
   above low place (workspace ∷ rest) less =
       let more = above low (place + 1) rest (omega arith) in
@@ -49,7 +56,8 @@ module _ (overridden : Bool) where
 rise_for : (settings : ConfigData) (present : List ProjectWorkspace) → Rises (ids_of (checks_for settings present))
 rise_for settings present =
     either (λ set. Rises (ids_of set)) (runs_once settings) ((0, settings.root_path) ∷ [])
-    (checks_from (is_given (words_set settings)) 0 present) (All-nil (λ id. 0 < id), tt) (rise (is_given (words_set settings)) 0 present)
+    (checks_from (is_given (words_set settings)) 0 present) (All-nil (λ id. 0 < id), tt)
+    (rise (is_given (words_set settings)) 0 present)
 
 -- how far a check is leaves those that are set
 set_stays : (settings : ConfigData) (id : ℕ) (progress : CheckProgress) (checks : Checks)
@@ -102,8 +110,10 @@ module _ (overridden : Bool) where
 
   found_if : (b : Bool) (first : ProjectWorkspace) (rest : List ProjectWorkspace) (place at : ℕ) (check : ℕ × List ℕ)
       → is_checked overridden first.kind ≡ b
-      → ((at : ℕ) → slice_get (checks_from overridden (place + 1) rest) at ≡ Some check → IsBehind (place + 1) rest check)
-      → slice_get (cond b ((place, first.root) ∷ checks_from overridden (place + 1) rest) (checks_from overridden (place + 1) rest)) at ≡ Some check
+      → ((at : ℕ) → slice_get (checks_from overridden (place + 1) rest) at ≡ Some check
+      → IsBehind (place + 1) rest check)
+      → slice_get (cond b ((place, first.root) ∷ checks_from overridden (place + 1) rest)
+      (checks_from overridden (place + 1) rest)) at ≡ Some check
       → IsBehind place (first ∷ rest) check
   found_if true first rest place zero check checked more is =
       let same = inside (place, first.root) check is in
@@ -118,18 +128,21 @@ module _ (overridden : Bool) where
   found_if true first rest place (suc at) check checked more is = further place first rest check (more at is)
   found_if false first rest place at check checked more is = further place first rest check (more at is)
 
-  found : (present : List ProjectWorkspace) (place at : ℕ) (check : ℕ × List ℕ) → slice_get (checks_from overridden place present) at ≡ Some check
+  found : (present : List ProjectWorkspace) (place at : ℕ) (check : ℕ × List ℕ)
+      → slice_get (checks_from overridden place present) at ≡ Some check
       → IsBehind place present check
   found [] place at check is = absurd (cc)
   found (first ∷ rest) place at check is =
-      found_if (is_checked overridden first.kind) first rest place at check refl (λ at. found rest (place + 1) at check) is
+      found_if (is_checked overridden first.kind) first rest place at check refl (λ at. found rest (place + 1) at check)
+      is
 
   shifted : (b : Bool) (first check : ℕ × List ℕ) (more : List (ℕ × List ℕ)) (at : ℕ) → slice_get more at ≡ Some check
       → (at : ℕ) × (slice_get (cond b (first ∷ more) more) at ≡ Some check)
   shifted true first check more at is = (suc at, is)
   shifted false first check more at is = (at, is)
 
-  has : (present : List ProjectWorkspace) (place offset : ℕ) (workspace : ProjectWorkspace) → slice_get present offset ≡ Some workspace
+  has : (present : List ProjectWorkspace) (place offset : ℕ) (workspace : ProjectWorkspace)
+      → slice_get present offset ≡ Some workspace
       → is_checked overridden workspace.kind ≡ true
       → (at : ℕ) × (slice_get (checks_from overridden place present) at ≡ Some (place + offset, workspace.root))
   has [] place offset workspace is checked = absurd (cc)
@@ -138,7 +151,8 @@ module _ (overridden : Bool) where
       let is_one = ap (λ (w : ProjectWorkspace). is_checked overridden w.kind) same ∙ checked in (
         0,
         ap (λ set. slice_get set 0)
-            (cond-true (is_checked overridden first.kind) ((place, first.root) ∷ checks_from overridden (place + 1) rest)
+            (cond-true (is_checked overridden first.kind)
+            ((place, first.root) ∷ checks_from overridden (place + 1) rest)
             (checks_from overridden (place + 1) rest) is_one)
             ∙ ap (λ (w : ProjectWorkspace). Some (place, w.root)) same
             ∙ ap (λ (n : ℕ). Some (n, workspace.root)) (sym (add-zero place)),
@@ -146,21 +160,31 @@ module _ (overridden : Bool) where
   has (first ∷ rest) place (suc offset) workspace is checked =
       let later = has rest (place + 1) offset workspace is checked in
       let same : place + 1 + offset ≡ place + suc offset = omega arith in
-      shifted (is_checked overridden first.kind) (place, first.root) (place + suc offset, workspace.root) (checks_from overridden (place + 1) rest) later.0
+      shifted (is_checked overridden first.kind) (place, first.root) (place + suc offset, workspace.root)
+      (checks_from overridden (place + 1) rest) later.0
       (later.1 ∙ ap (λ (n : ℕ). Some (n, workspace.root)) same)
 
 for_each : (settings : ConfigData) (present : List ProjectWorkspace) → runs_once settings ≡ false
     → checks_for settings present ≡ checks_from (is_given (words_set settings)) 0 present
 for_each settings present each = cond-false (runs_once settings) ((0, settings.root_path) ∷ []) _ each
 
-pub is_of_workspace : (settings : ConfigData) (present : List ProjectWorkspace) (at : ℕ) (check : ℕ × List ℕ) → runs_once settings ≡ false
-    → slice_get (checks_for settings present) at ≡ Some check → IsOfWorkspace (is_given (words_set settings)) present check
+pub is_of_workspace : (settings : ConfigData) (present : List ProjectWorkspace) (at : ℕ) (check : ℕ × List ℕ)
+    → runs_once settings ≡ false
+    → slice_get (checks_for settings present) at ≡ Some check
+    → IsOfWorkspace (is_given (words_set settings)) present check
 is_of_workspace settings present at check each is =
-    let k = found (is_given (words_set settings)) present 0 at check (sym (ap (λ set. slice_get set at) (for_each settings present each)) ∙ is) in
+    let k = found (is_given (words_set settings)) present 0 at
+    check (sym (ap (λ set. slice_get set at) (for_each settings present each)) ∙ is) in
     let same : check.0 ≡ k.offset = omega (arith, k.id) in
-    record { workspace = k.workspace; there = ap (slice_get present) same ∙ k.there; folder = k.folder; checked = k.checked }
+    record {
+      workspace = k.workspace;
+      there = ap (slice_get present) same ∙ k.there;
+      folder = k.folder;
+      checked = k.checked;
+    }
 
-pub has_its_check : (settings : ConfigData) (present : List ProjectWorkspace) (place : ℕ) (workspace : ProjectWorkspace) → runs_once settings ≡ false
+pub has_its_check : (settings : ConfigData) (present : List ProjectWorkspace) (place : ℕ) (workspace : ProjectWorkspace)
+    → runs_once settings ≡ false
     → slice_get present place ≡ Some workspace → is_checked (is_given (words_set settings)) workspace.kind ≡ true
     → (at : ℕ) × (slice_get (checks_for settings present) at ≡ Some (place, workspace.root))
 has_its_check settings present place workspace each is checked =
@@ -176,7 +200,8 @@ has_its_check settings present place workspace each is checked =
 module _ (checks : Checks) where
   all_set : All (λ (check : ℕ × List ℕ). is_set check.0 checks ≡ true) checks.set
   all_set k d less =
-      list_any_at (λ (check : ℕ × List ℕ). check.0 == (get_or checks.set k d).0) checks.set k d less (eq-eqb (get_or checks.set k d).0 _ refl)
+      list_any_at (λ (check : ℕ × List ℕ). check.0 == (get_or checks.set k d).0) checks.set k d
+      less (eq-eqb (get_or checks.set k d).0 _ refl)
 
   one_of : (t : Telling) → IsOfSet checks t → All (IsOfSet checks) (t ∷ [])
   one_of t is = All-cons (IsOfSet checks) t [] is (All-nil (IsOfSet checks))
@@ -189,8 +214,10 @@ module _ (checks : Checks) where
   those_cancelled None = All-nil (IsOfSet checks)
   those_cancelled (Some id) = one_if (is_set id checks) (CancelCheck id) (λ is. is)
 
-  of_progress : (settings : ConfigData) (id : ℕ) (progress : CheckProgress) → All (IsOfSet checks) (progressed settings id progress checks).tellings
-  of_progress settings id (DidStart command) = one_of (Begin (title_by (length checks.set) id command) (Some (token_of id)) None) tt
+  of_progress : (settings : ConfigData) (id : ℕ) (progress : CheckProgress)
+      → All (IsOfSet checks) (progressed settings id progress checks).tellings
+  of_progress settings id (DidStart command) =
+      one_of (Begin (title_by (length checks.set) id command) (Some (token_of id)) None) tt
   of_progress settings id (DidCheckCrate name) =
       one_of (Report (title_of settings id checks) (Some (token_of id)) (Some name) None) tt
   of_progress settings id DidCancel = one_of (End (title_of settings id checks) (Some (token_of id)) None) tt
@@ -214,7 +241,8 @@ same_number : (id : ℕ) → eq_by_cmp nat_cmp id id ≡ true
 same_number id = (eq_by_cmp_equiv nat_cmp_total).refl id
 
 other_number : (b : Bool) (id other : ℕ) → eq_by_cmp nat_cmp id other ≡ b → id ≢ other → b ≡ false
-other_number true id other is apart = absurd (apart (by_key.nat_cmp-IsAntisymmetric id other ((Equal-is (nat_cmp id other)).0 is)))
+other_number true id other is apart = absurd
+    (apart (by_key.nat_cmp-IsAntisymmetric id other ((Equal-is (nat_cmp id other)).0 is)))
 other_number false id other is apart = refl
 
 -- so many checks are set, and this one was started with this command
@@ -223,7 +251,8 @@ pub record IsUnder (count id : ℕ) (command : List ℕ) (checks : Checks) : Typ
   pub started : by_key.get checks.commands id ≡ Some command
 
 module _ (count id : ℕ) (command : List ℕ) where
-  goes_on : (settings : ConfigData) (other : ℕ) (progress : CheckProgress) (checks : Checks) → GoesOn id (Progresses settings other progress)
+  goes_on : (settings : ConfigData) (other : ℕ) (progress : CheckProgress) (checks : Checks)
+      → GoesOn id (Progresses settings other progress)
       → IsUnder count id command checks → IsUnder count id command (progressed settings other progress checks).state
   goes_on settings other (DidStart next) checks apart is = record {
     set = is.set;
@@ -243,13 +272,17 @@ module _ (count id : ℕ) (command : List ℕ) where
       ap (λ n. title_by n id (command_of settings id checks)) is.set
       ∙ ap (λ o. title_by count id (unwrap_or o (command_set settings))) is.started
 
-  end_told : (settings : ConfigData) (progress : CheckProgress) (checks : Checks) → IsUnder count id command checks → is_end progress ≡ true
-      → (progressed settings id progress checks).tellings ≡ End (title_by count id command) (Some (token_of id)) None ∷ []
+  end_told : (settings : ConfigData) (progress : CheckProgress) (checks : Checks) → IsUnder count id command checks
+      → is_end progress ≡ true
+      → (progressed settings id progress checks).tellings ≡ End (title_by count id command) (Some (token_of id)) None
+      ∷ []
   end_told settings (DidStart next) checks is ends = absurd (true≢false (sym ends))
   end_told settings (DidCheckCrate name) checks is ends = absurd (true≢false (sym ends))
-  end_told settings DidCancel checks is ends = ap (λ title. End title (Some (token_of id)) None ∷ []) (title_under settings checks is)
+  end_told settings DidCancel checks is ends =
+      ap (λ title. End title (Some (token_of id)) None ∷ []) (title_under settings checks is)
   end_told settings (DidFailToRestart reason) checks is ends = absurd (true≢false (sym ends))
-  end_told settings (DidFinish result) checks is ends = ap (λ title. End title (Some (token_of id)) None ∷ []) (title_under settings checks is)
+  end_told settings (DidFinish result) checks is ends =
+      ap (λ title. End title (Some (token_of id)) None ∷ []) (title_under settings checks is)
 
 module _ (settings : ConfigData) (id : ℕ) (command : List ℕ) (before : List CheckAct) where
   abbrev pub count_before : ℕ
@@ -264,23 +297,29 @@ module _ (settings : ConfigData) (id : ℕ) (command : List ℕ) (before : List 
   }
   stays_under (Sets now present ∷ since) goes = absurd (All-head (GoesOn id) _ since goes)
   stays_under (Progresses now other progress ∷ since) goes =
-      goes_on count_before id command now other progress _ (All-head (GoesOn id) (Progresses now other progress) since goes)
+      goes_on count_before id command now other progress
+      _ (All-head (GoesOn id) (Progresses now other progress) since goes)
       (stays_under since (All-tail (GoesOn id) _ since goes))
   stays_under (RestartsAll ∷ since) goes = stays_under since (All-tail (GoesOn id) _ since goes)
   stays_under (Saves now path ∷ since) goes = stays_under since (All-tail (GoesOn id) _ since goes)
   stays_under (CancelsAll ∷ since) goes = stays_under since (All-tail (GoesOn id) _ since goes)
   stays_under (Cancels token ∷ since) goes = stays_under since (All-tail (GoesOn id) _ since goes)
 
-  pub ends_under : (now : ConfigData) (progress : CheckProgress) (since : List CheckAct) → All (GoesOn id) since → is_end progress ≡ true
-      → (check_step (Progresses now id progress) (checks_after (since ++ Progresses settings id (DidStart command) ∷ before))).tellings
+  pub ends_under : (now : ConfigData) (progress : CheckProgress) (since : List CheckAct) → All (GoesOn id) since
+      → is_end progress ≡ true
+      → (check_step (Progresses now id progress)
+      (checks_after (since ++ Progresses settings id (DidStart command) ∷ before))).tellings
       ≡ End (title_by count_before id command) (Some (token_of id)) None ∷ []
-  ends_under now progress since goes ends = end_told count_before id command now progress _ (stays_under since goes) ends
+  ends_under now progress since goes ends =
+      end_told count_before id command now progress _ (stays_under since goes) ends
 
   pub reports_under : (now : ConfigData) (name : List ℕ) (since : List CheckAct) → All (GoesOn id) since
-      → (check_step (Progresses now id (DidCheckCrate name)) (checks_after (since ++ Progresses settings id (DidStart command) ∷ before))).tellings
+      → (check_step (Progresses now id (DidCheckCrate name))
+      (checks_after (since ++ Progresses settings id (DidStart command) ∷ before))).tellings
       ≡ Report (title_by count_before id command) (Some (token_of id)) (Some name) None ∷ []
   reports_under now name since goes =
-      ap (λ title. Report title (Some (token_of id)) (Some name) None ∷ []) (title_under count_before id command now _ (stays_under since goes))
+      ap (λ title. Report title (Some (token_of id)) (Some name) None ∷ [])
+      (title_under count_before id command now _ (stays_under since goes))
 
 -- ---- the token
 
@@ -311,5 +350,6 @@ module _ (id : ℕ) (small : id < 2 ^ 32) where
       ap (option_and_then number_in) (behind-append token_front (decimal id))
       ∙ spelled (is_numeral digits_of && ltb value_of (2 ^ 32)) refl
 
-  pub token_cancels : (checks : Checks) → cancelled_at (token_of id) checks ≡ cond (is_set id checks) (CancelCheck id ∷ []) []
+  pub token_cancels : (checks : Checks) → cancelled_at (token_of id) checks ≡
+      cond (is_set id checks) (CancelCheck id ∷ []) []
   token_cancels checks = ap (λ o. cancelled_by o checks) id_in_token

@@ -3,7 +3,8 @@ use Rattle.std.proofs.Common.{◌≡◌, ◌++◌, List, [], ◌∷◌, refl, ap
 use Rattle.activities.specs.Priming.{keep, behind}
 use Rattle.activities.specs.declared.priming.PrimeMsg.{PrimeMsg}
 
-pub keep-append : (message last : PrimeMsg) (front : List PrimeMsg) → keep message (front ++ last ∷ []) ≡ front ++ behind last message
+pub keep-append : (message last : PrimeMsg) (front : List PrimeMsg) → keep message (front ++ last ∷ []) ≡ front
+    ++ behind last message
 keep-append message last [] = refl
 keep-append message last (first ∷ []) = refl
 keep-append message last (first ∷ next ∷ front) = ap (λ rest. first ∷ rest) (keep-append message last (next ∷ front))

@@ -4,7 +4,8 @@ use Rattle.project_model.specs.declared.workspace.ProjectWorkspace.{ProjectWorks
 use Rattle.ra_config.specs.Config.{ConfigData}
 use Rattle.session_port.specs.declared.news.CheckProgress.{CheckProgress}
 use Rattle.session_port.specs.declared.news.CheckProgress.TheVariants.{DidStart}
-use Rattle.activities.specs.Checks.{Checks, no_checks, is_checked, checks_set, progressed, all_restarted, file_restarted}
+use Rattle.activities.specs.Checks.{Checks, no_checks, is_checked, checks_set, progressed, all_restarted}
+use Rattle.activities.specs.Checks.{file_restarted}
 use Rattle.activities.specs.Checks.{all_cancelled, cancelled_at, is_set}
 use Rattle.activities.specs.Announced.{Announced, telling}
 use Rattle.activities.specs.declared.telling.Telling.{Telling}

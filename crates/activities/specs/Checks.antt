@@ -1,5 +1,6 @@
 -- The checks of a session: which are set, what is told of how far one is, and which restart and are cancelled.
-use Rattle.std.specs.Prelude.{ℕ, ◌+◌, ◌==◌, Bool, true, false, List, [], ◌∷◌, ◌++◌, length, map, codes, Option, None, Some}
+use Rattle.std.specs.Prelude.{ℕ, ◌+◌, ◌==◌, Bool, true, false, List, [], ◌∷◌, ◌++◌, length, map, codes, Option, None}
+use Rattle.std.specs.Prelude.{Some}
 use Rattle.std.specs.Prelude.{if◌then◌else◌, unwrap_or, Result, Ok, Err}
 use Rattle.std.specs.FinMap as by_key
 use Rattle.std.specs.List.{list_any}
@@ -18,7 +19,8 @@ use Rattle.activities.specs.CheckNames.{command_set, title_by, token_of, id_in}
 use Rattle.activities.specs.Settings.{runs_once, words_set}
 use Rattle.activities.specs.Announced.{Announced, telling, silent}
 use Rattle.activities.specs.declared.telling.Telling.{Telling}
-use Rattle.activities.specs.declared.telling.Telling.TheVariants.{Begin, Report, End, SetChecks, RestartCheck, CancelCheck}
+use Rattle.activities.specs.declared.telling.Telling.TheVariants.{Begin, Report, End, SetChecks, RestartCheck}
+use Rattle.activities.specs.declared.telling.Telling.TheVariants.{CancelCheck}
 
 pub record Checks : Type 0 where
   -- those that may run, each with the folder that it is for
@@ -92,7 +94,8 @@ with_command id command checks = record checks { commands = by_key.insert checks
 -- a check begins with this command
 abbrev pub begun : ℕ → List ℕ → Checks → Announced Checks
 begun id command checks =
-    telling (Begin (title_by (length checks.set) id command) (Some (token_of id)) None ∷ []) (with_command id command checks)
+    telling (Begin (title_by (length checks.set) id command) (Some (token_of id)) None ∷ [])
+    (with_command id command checks)
 
 -- it is done with a crate
 abbrev pub reported : ConfigData → ℕ → List ℕ → Checks → List Telling
@@ -139,7 +142,8 @@ is_set id checks = list_any (λ (check : ℕ × List ℕ). check.0 == id) checks
 -- crates that the file is of
 abbrev pub file_restarted : ConfigData → List ℕ → Checks → Option (List Telling)
 file_restarted settings path checks =
-    if runs_once settings then Some (if is_set 0 checks then RestartCheck 0 (Workspace (Some path)) ∷ [] else []) else None
+    if runs_once settings then Some (if is_set 0 checks then RestartCheck 0 (Workspace (Some path)) ∷ [] else [])
+    else None
 
 abbrev pub cancel : ℕ × List ℕ → Telling
 cancel check = CancelCheck check.0

@@ -9,7 +9,8 @@ use Rattle.session_port.specs.declared.news.TestState.{TestState}
 use Rattle.session_port.specs.declared.news.TestState.TheVariants as state
 use Rattle.activities.specs.Announced.{Announced, telling, silent}
 use Rattle.activities.specs.declared.telling.Telling.{Telling}
-use Rattle.activities.specs.declared.telling.Telling.TheVariants.{TestState as TestStateTold, EndRunTest, AppendOutput, RunTest, StopTest}
+use Rattle.activities.specs.declared.telling.Telling.TheVariants.{TestState as TestStateTold, EndRunTest, AppendOutput}
+use Rattle.activities.specs.declared.telling.Telling.TheVariants.{RunTest, StopTest}
 
 pub record Tests : Type 0 where
   -- a run is in progress

@@ -49,7 +49,8 @@ ends_in tests tellings = if tests.active then count_by ends_run tellings else 0
 -- how often the client was told the end of a run that was in progress
 abbrev pub runs_ended : List TestAct → ℕ
 runs_ended [] = 0
-runs_ended (act ∷ before) = ends_in (tests_after before) (test_step act (tests_after before)).tellings + runs_ended before
+runs_ended (act ∷ before) = ends_in (tests_after before) (test_step act (tests_after before)).tellings + runs_ended
+    before
 
 -- how many runs are in progress: none or one
 abbrev pub running : Tests → ℕ
