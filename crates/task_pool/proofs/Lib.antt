@@ -1,0 +1,5 @@
+pub mod Crews
+pub mod Ends
+pub mod Honest
+pub mod Running
+pub mod Sent

@@ -1,0 +1,11 @@
+pub mod Codes
+pub mod Crews
+pub mod Employs
+pub mod Ends
+pub mod Kept
+pub mod Reading
+pub mod Revising
+pub mod Running
+pub mod Starts
+pub mod Threaded
+pub mod Waiting
