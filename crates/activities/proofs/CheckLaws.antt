@@ -217,7 +217,7 @@ module _ (checks : Checks) where
   of_progress : (settings : ConfigData) (id : ℕ) (progress : CheckProgress)
       → All (IsOfSet checks) (progressed settings id progress checks).tellings
   of_progress settings id (DidStart command) =
-      one_of (Begin (title_by (length checks.set) id command) (Some (token_of id)) None) tt
+      one_of (Begin (title_by (length checks.set) id command) (Some (token_of id)) None None) tt
   of_progress settings id (DidCheckCrate name) =
       one_of (Report (title_of settings id checks) (Some (token_of id)) (Some name) None) tt
   of_progress settings id DidCancel = one_of (End (title_of settings id checks) (Some (token_of id)) None) tt

@@ -54,13 +54,13 @@ module _ (label : List ℕ) (arg : DiscoverArg) where
       and_then (cond room (Ok (discovery.given + 1)) (Err Discoveries))
       (λ number. Ok (telling (begins label discovery ++ Discover arg ∷ []) (one_more number discovery)))
 
-  begins_first : (zero : Bool) → count_by is_begin (cond zero (Begin label None None ∷ []) [] ++ Discover arg ∷ []) +
+  begins_first : (zero : Bool) → count_by is_begin (cond zero (Begin label None None None ∷ []) [] ++ Discover arg ∷ []) +
       cond zero 0 1 ≡ 1
   begins_first true = refl
   begins_first false = refl
 
   ends_none : (zero : Bool) → cond zero 0 (count_by
-      is_end (cond zero (Begin label None None ∷ []) [] ++ Discover arg ∷ [])) ≡ 0
+      is_end (cond zero (Begin label None None None ∷ []) [] ++ Discover arg ∷ [])) ≡ 0
   ends_none true = refl
   ends_none false = refl
 

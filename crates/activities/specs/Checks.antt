@@ -94,7 +94,7 @@ with_command id command checks = record checks { commands = by_key.insert checks
 -- a check begins with this command
 abbrev pub begun : ℕ → List ℕ → Checks → Announced Checks
 begun id command checks =
-    telling (Begin (title_by (length checks.set) id command) (Some (token_of id)) None ∷ [])
+    telling (Begin (title_by (length checks.set) id command) (Some (token_of id)) None None ∷ [])
     (with_command id command checks)
 
 -- it is done with a crate

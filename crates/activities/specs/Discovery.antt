@@ -28,7 +28,7 @@ no_discovery_at given = record { given = given; active = 0 }
 
 -- the first one in progress begins the work that is told under this label
 abbrev pub begins : List ℕ → Discovery → List Telling
-begins label discovery = if discovery.active == 0 then Begin label None None ∷ [] else []
+begins label discovery = if discovery.active == 0 then Begin label None None None ∷ [] else []
 
 abbrev pub one_more : ℕ → Discovery → Discovery
 one_more number discovery = record { given = number; active = discovery.active + 1 }

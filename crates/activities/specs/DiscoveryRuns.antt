@@ -58,7 +58,7 @@ ends_heard [] = 0
 ends_heard (act ∷ before) = ends_one act + ends_heard before
 
 abbrev pub is_begin : Telling → Bool
-is_begin (Begin title token percentage) = true
+is_begin (Begin title token message percentage) = true
 is_begin other = false
 
 abbrev pub is_end : Telling → Bool

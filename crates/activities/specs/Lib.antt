@@ -6,7 +6,10 @@ pub mod Discovery
 pub mod DiscoveryRuns
 pub mod Priming
 pub mod PrimingRuns
+pub mod Scanning
+pub mod ScanRuns
 pub mod Settings
 pub mod TestRun
 pub mod TestRuns
+pub mod Work
 pub mod Announced

@@ -2,7 +2,7 @@
 use Rattle.std.specs.Prelude.{ℕ, Bool, List, [], ◌∷◌, ◌++◌, length, codes, Option, None, Some, is_some, min, ◌==◌}
 use Rattle.std.specs.Prelude.{if◌then◌else◌, true, false, ◌&&◌}
 use Rattle.std.specs.Fmt.{decimal}
-use Rattle.reload.specs.Progress.{hundredths}
+use Rattle.notify.specs.Fraction.{hundredths}
 use Rattle.op_board.specs.Queue.{Queue, new_queue, starts, after_start}
 use Rattle.op_board.specs.QueueRuns.{queue_step}
 use Rattle.op_board.specs.QueueRuns.QueueAct.{Requests, Ends}
@@ -71,7 +71,7 @@ reported done total crates =
     let capped = min done total in Report title token (crates_text capped total crates) (Some (hundredths capped total))
 
 abbrev pub tellings_of : PrimeMsg → List Telling
-tellings_of prime.Begin = Begin title token (Some 0) ∷ []
+tellings_of prime.Begin = Begin title token None (Some 0) ∷ []
 tellings_of (prime.Report done total crates) = reported done total crates ∷ []
 tellings_of (prime.End cancelled) = End title token None ∷ []
 

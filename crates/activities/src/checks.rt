@@ -214,6 +214,7 @@ impl Checks {
             Telling::Begin {
                 title,
                 token,
+                message: None,
                 percentage: None,
             },
         )

@@ -90,6 +90,7 @@ impl Discovery {
             tellings.push(Telling::Begin {
                 title: Text::from_str(self.alloc, label)?,
                 token: None,
+                message: None,
                 percentage: None,
             })?;
         }

@@ -6,6 +6,9 @@ ghost use Rattle.project_model.specs.declared.workspace.ProjectWorkspace.{Projec
 ghost use Rattle.ra_config.specs.Config.{ConfigData};
 ghost use Rattle.session_port.specs.declared.news.CheckProgress.{CheckProgress};
 ghost use Rattle.session_port.specs.declared.news.CheckProgress.TheVariants.{DidStart, DidCheckCrate};
+ghost use Rattle.session_port.specs.declared.event.LoaderMsg.{LoaderMsg};
+ghost use Rattle.session_port.specs.declared.event.LoaderMsg.TheVariants.{Progress as IsAt};
+ghost use Rattle.session_port.specs.declared.event.LoadingProgress.TheVariants.{Progress as Reported};
 ghost use Rattle.activities.specs.CheckNames.{token_of};
 ghost use Rattle.activities.specs.CheckRuns.{CheckAct, check_step, checks_after, Rises, IsOfWorkspace, IsOfSet, GoesOn};
 ghost use Rattle.activities.specs.CheckRuns.CheckAct.{Progresses};
@@ -13,6 +16,8 @@ ghost use Rattle.activities.specs.Checks.{Checks, ids_of, is_checked, is_given, 
 ghost use Rattle.activities.specs.DiscoveryRuns.{DiscoveryAct, discovery_after, orders_given, ends_heard, begins_told, ends_told, going_on};
 ghost use Rattle.activities.specs.Priming.{Priming, is_due, kept_of, prime_told};
 ghost use Rattle.activities.specs.PrimingRuns.{PrimeAct, priming_after, jobs_started, jobs_ended, without_passed};
+ghost use Rattle.activities.specs.Scanning.{scan_reported, scans_told};
+ghost use Rattle.activities.specs.ScanRuns.{leaves_last};
 ghost use Rattle.activities.specs.Settings.{runs_once, words_set};
 ghost use Rattle.activities.specs.TestRun.{Tests};
 ghost use Rattle.activities.specs.TestRuns.{TestAct, test_step, tests_after, stops_run, runs_started, runs_ended, running, programs_ended, StartsNone};
@@ -50,7 +55,7 @@ pub fn a_check_ends_under_the_title_that_it_began_with()
         → All (GoesOn id) since → is_end end ≡ true
         → (title : List ℕ)
         × ((check_step (Progresses then_set id (DidStart command)) (checks_after before)).tellings
-        ≡ Begin title (Some (token_of id)) None ∷ [])
+        ≡ Begin title (Some (token_of id)) None None ∷ [])
         × ((check_step (Progresses now_set id end) (checks_after (since ++ Progresses then_set id (DidStart command) ∷ before))).tellings
         ≡ End title (Some (token_of id)) None ∷ [])
         × ((name : List ℕ)
@@ -91,6 +96,13 @@ pub fn discoveries_never_fall_below_none()
 pub fn one_priming_runs()
     ensures one { (run : List PrimeAct) → jobs_started run ≡ jobs_ended run + running_in (priming_after run) }
     ensures again { (priming : Priming) → priming.in_progress ≡ true → is_due (prime_told (prime.End true) priming).state ≡ true }
+{}
+
+/// The last that a batch of a loader's messages tells is the last report in it, where no end came behind that.
+pub fn a_loader_is_told_to_its_last_report()
+    ensures { (root : List ℕ) (before after : List LoaderMsg) (done total : ℕ) (dir : Option (List ℕ)) (version : ℕ)
+        → All (λ message. leaves_last message ≡ true) after
+        → (front : List Telling) × (scans_told root (before ++ IsAt total (Reported done) dir version ∷ after) ≡ front ++ scan_reported root done total dir ∷ []) }
 {}
 
 /// Of a batch's messages of priming a report that has a report right behind it is left out, and no other message is.

@@ -6,7 +6,7 @@ ghost use Rattle.activities.specs.Announced.{Announces};
 use crate::telling::{Telling, one};
 use op_board::OpQueue;
 use plain::{Items, NoMemory, Text};
-use reload::Progress;
+use notify::Progress;
 use std::alloc::Global;
 use std::marker::Model;
 
@@ -129,6 +129,7 @@ fn tellings_of(alloc: Global, message: &PrimeMsg) -> Result<Items<Telling>, NoMe
             Telling::Begin {
                 title: title(alloc)?,
                 token: token(alloc)?,
+                message: None,
                 percentage: Some(0),
             },
         ),

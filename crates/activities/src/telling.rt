@@ -15,6 +15,7 @@ pub enum Telling {
     Begin {
         title: Text,
         token: Option<Text>,
+        message: Option<Text>,
         percentage: Option<u32>,
     },
     /// How far it is.

@@ -6,8 +6,10 @@ mod errors;
 mod handler;
 mod ids;
 mod state;
+mod work;
 
 pub use handler::ReqHandler;
 pub use ids::id_text;
 pub use plain::NoMemory;
 pub use state::Client;
+pub use work::WorkProgress;

@@ -15,6 +15,7 @@ ghost use Rattle.session_port.specs.TurnState.{written};
 
 mod answering;
 mod folders;
+mod progress;
 
 use crate::errors::errors_text;
 use crate::handler::ReqHandler;

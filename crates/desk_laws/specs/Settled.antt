@@ -5,7 +5,10 @@ use Rattle.lsp_frame.specs.declared.message.Request.{Request}
 use Rattle.session_port.specs.Jobs.{Jobs}
 use Rattle.session_port.specs.Record.{spawned}
 use Rattle.session_port.specs.declared.command.Command.{Command}
+use Rattle.project_model.specs.declared.check_scope.CheckScope.{CheckScope}
 use Rattle.session_port.specs.declared.command.Command.TheVariants.{Defer, Spawn, Log}
+use Rattle.session_port.specs.declared.command.Command.TheVariants as commands
+use Rattle.session_port.specs.declared.command.DiscoverArg.{DiscoverArg}
 use Rattle.session_port.specs.declared.command.DeferredTask.{DeferredTask}
 use Rattle.session_port.specs.declared.command.LogCode.{LogCode}
 use Rattle.session_port.specs.declared.job.Job.{Job}
@@ -14,11 +17,18 @@ use Rattle.desk.specs.Desk.{Desk}
 use Rattle.desk.specs.Folds.{asked_among, pending_after, shutdown_after}
 use Rattle.desk.specs.Reactions.{Reaction, responses_of}
 
--- neither a job nor a log line nor a task that is put off has the number that is asked of commands
+-- neither a job nor a log line nor a task that is put off has the number that is asked of commands, nor has an order to
+-- work beside the jobs
 pub record PassesOver (number_of : Command → Option ℕ) : Type 0 where
   pub jobs : (job : Job) → number_of (Spawn job) ≡ None
   pub logs : (code : LogCode) (text : List ℕ) → number_of (Log code text) ≡ None
   pub defers : (task : DeferredTask) → number_of (Defer task) ≡ None
+  pub sets : (checks : List (ℕ × List ℕ)) → number_of (commands.SetChecks checks) ≡ None
+  pub restarts : (id : ℕ) (scope : CheckScope) → number_of (commands.RestartCheck id scope) ≡ None
+  pub cancels : (id : ℕ) → number_of (commands.CancelCheck id) ≡ None
+  pub runs : (include exclude : Option (List (List ℕ))) → number_of (commands.RunTest include exclude) ≡ None
+  pub stops : number_of commands.StopTest ≡ None
+  pub discovers : (arg : DiscoverArg) → number_of (commands.Discover arg) ≡ None
 
 -- between these two these messages were written and no other, and these jobs handed over, and this request, if any, was
 -- read by the turn that is counted. These jobs

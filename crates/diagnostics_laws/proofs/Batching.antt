@@ -52,7 +52,8 @@ use Rattle.session_model.specs.Status.{is_quiescent, opens_logs, shown_of, statu
 use Rattle.session_model.specs.declared.facts.FactsBefore.{FactsBefore}
 use Rattle.session_model.specs.declared.input.Input.{Input}
 use Rattle.session_laws.proofs.OwnJobs.{Asks, refreshes-ask}
-use Rattle.diagnostics_laws.specs.Shown.{Published, published_by, told_list}
+use Rattle.session_laws.specs.Published.{Published, published_by}
+use Rattle.diagnostics_laws.specs.Shown.{told_list}
 use Rattle.diagnostics_laws.proofs.Sounding.{Goes, asking-goes, refreshes-go, told-append, told-none, told_in}
 use Rattle.diagnostics_laws.proofs.SoundingDesk.{DeskStep, spawned-step}
 

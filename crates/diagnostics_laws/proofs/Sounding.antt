@@ -40,7 +40,7 @@ use Rattle.session_model.specs.Machine.{text_shown, warned, with_client, with_de
 use Rattle.session_model.specs.State.{State}
 use Rattle.session_model.specs.declared.facts.FactsBefore.{FactsBefore}
 use Rattle.workspaces.specs.Workspaces.{Workspaces}
-use Rattle.diagnostics_laws.specs.Shown.{Published, published_among, published_by}
+use Rattle.session_laws.specs.Published.{Published, published_among, published_by}
 use Rattle.diagnostics_laws.proofs.StoringBatches.{Lists, last_given}
 use Rattle.diagnostics_laws.proofs.StoringGenerations.{AllFit, Fits, Grows, all-fit-grown, all-fit-on, steps-generation}
 use Rattle.diagnostics_laws.proofs.SoundingFiles.{FilesStep, longer-grows}

@@ -36,7 +36,7 @@ use Rattle.desk.specs.Steps.{cancelled, counted, handed_over, requested, result_
 use Rattle.desk_laws.specs.Settled.{Settled}
 use Rattle.desk_laws.proofs.Results.{IfOk-next, IfOk-weaker}
 use Rattle.desk_laws.proofs.Settling.{cancel-settles, message-settles, request-settles}
-use Rattle.diagnostics_laws.specs.Shown.{Published, published_among}
+use Rattle.session_laws.specs.Published.{Published, published_among}
 use Rattle.diagnostics_laws.proofs.KeyedBools.{none-some}
 use Rattle.diagnostics_laws.proofs.Sounding.{AreAmong, told-append, told_in}
 

@@ -46,7 +46,7 @@ use Rattle.session_laws.proofs.Handing.{turns-over}
 use Rattle.session_laws.proofs.Rows.{steps-fit}
 use Rattle.session_laws.proofs.Turns.{session_in}
 use Rattle.diagnostics_laws.specs.Batches.{HasGenerations, StoresBrought, brought_in, brought_past}
-use Rattle.diagnostics_laws.specs.Shown.{published_among}
+use Rattle.session_laws.specs.Published.{published_among}
 use Rattle.diagnostics_laws.proofs.Batching.{Kept, batch_board, due_in, published_of}
 use Rattle.diagnostics_laws.proofs.KeyedBools.{none-some, true-false}
 use Rattle.diagnostics_laws.proofs.MessagesEnds.{JobsFit}

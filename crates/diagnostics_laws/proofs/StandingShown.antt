@@ -21,7 +21,8 @@ use Rattle.session_files.specs.Current.{IsSound}
 use Rattle.session_files.specs.SessionFiles.{SessionFiles}
 use Rattle.session_model.specs.Run.{Runs, Turn}
 use Rattle.session_model.specs.State.{State, fresh}
-use Rattle.diagnostics_laws.specs.Shown.{HasBytePaths, Published, ShowsBoard, published_among, shown_past, told_list}
+use Rattle.session_laws.specs.Published.{Published, published_among}
+use Rattle.diagnostics_laws.specs.Shown.{HasBytePaths, ShowsBoard, shown_past, told_list}
 use Rattle.diagnostics_laws.proofs.Batching.{published_as_at, published_of}
 use Rattle.diagnostics_laws.proofs.KeyedBools.{none-some, some-is, true-false}
 use Rattle.diagnostics_laws.proofs.Standing.{Advances, Based, advances, first-based, named-apart, runs-reach}

@@ -1,45 +1,18 @@
 -- What a client is shown of files: the list that was published last at each URL.
-use Rattle.std.specs.Prelude.{◌≡◌, ℕ, ◌<◌, List, [], ◌∷◌, All, bytes_eq, codes, map as each, Option, None, Some, option_and_then, if◌then◌else◌}
-use Rattle.std.specs.List.{filter_map, flat_map}
+use Rattle.std.specs.Prelude.{◌≡◌, ℕ, ◌<◌, List, [], ◌∷◌, All, bytes_eq, map as each, Option, Some, if◌then◌else◌}
+use Rattle.std.specs.List.{flat_map}
 use Rattle.std.specs.FinMap as map
 use Rattle.serde_json.specs.Data.{Data}
-use Rattle.serde_json.specs.Find.{as_str, get}
 use Rattle.docs_vfs.specs.FileUrls.{url_of}
 use Rattle.docs_vfs.specs.Files.{Files, path_at}
 use Rattle.docs_vfs.specs.declared.file_kinds.FileId.{FileId}
-use Rattle.lsp_frame.specs.declared.message.Message.{Message}
-use Rattle.lsp_frame.specs.declared.message.Message.TheVariants.{Notification, Request, Response}
 use Rattle.lsp_types.specs.Values.{diagnostic_value, list_value}
 use Rattle.lsp_types.specs.declared.diagnostic.Diagnostic.{Diagnostic}
 use Rattle.op_board.specs.Board.{diagnostics_of}
 use Rattle.session_model.specs.Diagnosing.{told_diagnostic}
 use Rattle.session_model.specs.Run.{Turn}
 use Rattle.session_model.specs.State.{State}
-
--- ---- what is published
-
--- a list of diagnostics, as JSON, at a URL
-pub record Published : Type 0 where
-  pub url : List ℕ
-  pub list : Data
-
-abbrev pub published_as : Option (List ℕ) → Option Data → Option Published
-published_as None list = None
-published_as (Some url) None = None
-published_as (Some url) (Some list) = Some (record { url = url; list = list })
-
--- what the params of `textDocument/publishDiagnostics` tell
-abbrev pub published_in : Data → Option Published
-published_in params = published_as (option_and_then as_str (get (codes "uri") params)) (get (codes "diagnostics") params)
-
--- what a message publishes
-abbrev pub published_by : Message → Option Published
-published_by (Request r) = None
-published_by (Response r) = None
-published_by (Notification n) = if bytes_eq n.method (codes "textDocument/publishDiagnostics") then published_in n.params else None
-
-abbrev pub published_among : List Message → List Published
-published_among messages = filter_map published_by messages
+use Rattle.session_laws.specs.Published.{Published, published_among}
 
 -- ---- what is shown
 

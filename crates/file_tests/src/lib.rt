@@ -14,6 +14,8 @@ mod ends;
 #[cfg(test)]
 mod forms;
 #[cfg(test)]
+mod fractions;
+#[cfg(test)]
 mod ledgers;
 #[cfg(test)]
 mod messages;

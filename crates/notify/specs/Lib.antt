@@ -6,6 +6,7 @@ pub mod Flychecks
 pub mod Reading
 pub mod Objects
 pub mod Registering
+pub mod Fraction
 pub mod Progressing
 pub mod Publishing
 pub mod Showing

@@ -1,5 +1,5 @@
 -- An event in a session that is quiescent leaves what a batch goes by, unless documents come or go with it.
-use Rattle.std.proofs.Common.{◌≡◌, ℕ, List, Bool, true, false, refl, ap, ◌∙◌}
+use Rattle.std.proofs.Common.{◌≡◌, ℕ, List, Bool, true, false, refl, sym, subst, ap, ◌∙◌}
 use Rattle.std.specs.Prelude.{Some, is_ok, Result, Ok, Err, IfOk, if◌then◌else◌}
 use Rattle.docs_vfs.specs.FileUrls.{path_of}
 use Rattle.docs_vfs.specs.declared.file_url.UrlFault.{UrlFault}
@@ -22,7 +22,11 @@ use Rattle.session_files.specs.Steps.{become, changed_document, edited_document,
 use Rattle.session_model.specs.Diagnosing.{opens_or_closes}
 use Rattle.session_model.specs.Hearing.{heard_of, told_by}
 use Rattle.session_model.specs.Machine.{all_resumed, answer_taken, at_files, batched, came_or_went, document_changed_at, document_closed_at, document_opened_at}
-use Rattle.session_model.specs.Machine.{files_in, happened, loader_taken, news_taken, noticed, received, request_taken, told, with_files}
+use Rattle.session_model.specs.Machine.{files_in, happened, loader_brought, loader_taken, news_taken, noticed, received, request_taken, tellings_told, told}
+use Rattle.session_model.specs.Machine.{with_files}
+use Rattle.activities.specs.Scanning.{scans_told}
+use Rattle.activities.specs.declared.telling.Telling.{Telling}
+use Rattle.quiet_laws.proofs.Parts.{LeavesAll, told-leave}
 use Rattle.session_model.specs.State.{State, columns_in}
 use Rattle.session_model.specs.Timing.{bring_files, renewed_if}
 use Rattle.session_model.specs.declared.heard.Heard.{Heard}
@@ -152,7 +156,7 @@ noticed-calm Silent method w none sound numbered = calm-none w.state
 
 -- ---- other events
 
-brought-calm : (messages : List LoaderMsg) (w : TurnState State) → IfOk (loader_taken messages w) (CalmFrom w)
+brought-calm : (messages : List LoaderMsg) (w : TurnState State) → IfOk (loader_brought messages w) (CalmFrom w)
 unfolding loaded
 brought-calm messages w =
     let files : TurnState SessionFiles = record { state = w.state.files; out = w.out } in
@@ -163,6 +167,18 @@ brought-calm messages w =
     renewed-asks (bring_files messages) v.state.desk.turns v.state.workspaces in
     record { files = calm.files; cleared = calm.cleared; last = asks.last ∙ calm.last; switch = asks.switch ∙ calm.switch })
 
+loader-calm : (messages : List LoaderMsg) (w : TurnState State) → IfOk (loader_taken messages w) (CalmFrom w)
+loader-calm messages w =
+    let told : List Telling = scans_told w.state.client.settings.root_path messages in
+    IfOk-and_then (loader_brought messages w) (tellings_told told) (CalmFrom w) (CalmFrom w) (brought-calm messages w)
+    (λ v calm. IfOk-weaker (tellings_told told v) (LeavesAll v) (CalmFrom w) (told-leave told v)
+    (λ u leaves. record {
+      files = subst (Brings w.state.files) (sym leaves.files) calm.files;
+      cleared = leaves.cleared ∙ calm.cleared;
+      last = ap (λ (ws : Workspaces). ws.fetches.queue.last) leaves.workspaces ∙ calm.last;
+      switch = ap (λ (ws : Workspaces). ws.switch_wanted) leaves.workspaces ∙ calm.switch;
+    }))
+
 pub event-calm : (meaning : Meaning) (event : Event) (w : TurnState State) → came_or_went (Next event) ≡ false → IsIdle w.state.workspaces
     → IsSound w.state.files → OpenAreNumbered w.state.files → IfOk (happened meaning event w) (CalmFrom w)
 unfolding happened received
@@ -171,9 +187,9 @@ event-calm meaning (Lsp (NotificationMessage n)) w none idle sound numbered = no
 event-calm meaning (Lsp (ResponseMessage r)) w none idle sound numbered = goes-calm (answer_taken r w) w (answer-goes r w)
 event-calm meaning (Task batch) w none idle sound numbered =
     IfOk-weaker (batched meaning batch w) (Takes w) (CalmFrom w) (batch-takes meaning batch w) (λ v takes. calm-takes w v idle takes)
-event-calm meaning (Vfs messages) w none idle sound numbered = brought-calm messages w
+event-calm meaning (Vfs messages) w none idle sound numbered = loader-calm messages w
 event-calm meaning (Deferred tasks) w none idle sound numbered = goes-calm (all_resumed tasks w) w (all-resume tasks w)
-event-calm meaning (News news) w none idle sound numbered = calm-goes w (news_taken news w) (news-goes news w)
+event-calm meaning (News news) w none idle sound numbered = goes-calm (news_taken news w) w (news-goes news w)
 event-calm meaning (Timer number) w none idle sound numbered = record {
   files = files-same w.state.files w.state.files refl;
   cleared = refl;

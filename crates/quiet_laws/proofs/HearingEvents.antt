@@ -1,5 +1,5 @@
 -- What an event does to what is heard, and, where nothing is in progress, to what a batch goes by.
-use Rattle.std.proofs.Common.{◌≡◌, ℕ, List, [], ◌∷◌, Bool, true, false, refl, sym, inl, subst}
+use Rattle.std.proofs.Common.{◌≡◌, ◌∙◌, ap, ℕ, List, [], ◌∷◌, Bool, true, false, refl, sym, inl, subst}
 use Rattle.std.specs.Prelude.{Option, None, Some, is_some, Result, Ok, IfOk}
 use Rattle.std.specs.FinMap as map
 use Rattle.docs_vfs.specs.FileUrls.{path_of}
@@ -43,7 +43,18 @@ use Rattle.session_model.specs.Fetching.{fetch_kept, folders_told_if, settings_t
 use Rattle.session_model.specs.Hearing.{heard_of}
 use Rattle.session_model.specs.Loading.{crates_loaded, load_kept}
 use Rattle.session_model.specs.Machine.{all_resumed, answer_taken, at_board, at_client, at_desk, at_files, at_workspaces, batched, build_taken, client_in}
-use Rattle.session_model.specs.Machine.{crates_arrived, end_taken, fetch_taken, files_processed, files_processed_if, folders_taken, happened, load_taken}
+use Rattle.session_model.specs.Machine.{crates_arrived, end_taken, fetch_taken, files_processed, folders_taken, happened, load_taken}
+use Rattle.session_model.specs.Machine.{checks_renewed_if, checks_restarted_if, crates_settled_if, files_changed, loader_brought, request_answered}
+use Rattle.session_model.specs.Machine.{tellings_told, tests_announced, tests_run, work_followed}
+use Rattle.session_model.specs.Restarting.{cancelled_under, has_other_checks, restart_checks}
+use Rattle.session_model.specs.Testing.{run_asked_by}
+use Rattle.session_port.specs.Jobs.{fitting_job}
+use Rattle.activities.specs.Checks.{all_cancelled}
+use Rattle.activities.specs.Scanning.{scans_told}
+use Rattle.activities.specs.TestRun.{aborted}
+use Rattle.activities.specs.Work.{job_told}
+use Rattle.activities.specs.declared.telling.Telling.{Telling}
+use Rattle.session_laws.proofs.Announcing.{renewed_if-owes, restarted_if-owes, tests-announced-owe, tests-run-owe}
 use Rattle.session_model.specs.Machine.{loader_taken, macros_taken}
 use Rattle.session_model.specs.Machine.{message_taken, noticed, received, request_taken, resumed, told, with_client, work_taken}
 use Rattle.session_model.specs.State.{State, goes_by_folders, scene_of, snapshot_of}
@@ -61,24 +72,30 @@ use Rattle.quiet_laws.specs.Heard.{progress_after, progress_after_messages, time
 use Rattle.quiet_laws.proofs.Bools.{else-is, true-false}
 use Rattle.quiet_laws.proofs.HearingFiles.{Hears, changed-happens, closed-happens, crates-hear, hears-happens, loader-hears, opened-happens, processed-happens}
 use Rattle.quiet_laws.proofs.HearingSteps.{Goes, Happens, Takes, goes-board, goes-desk, goes-leaves, goes-logged, goes-logged_if, goes-none, goes-on}
-use Rattle.quiet_laws.proofs.HearingSteps.{goes-takes}
+use Rattle.quiet_laws.proofs.HearingSteps.{checks-run-go, goes-takes, goes-then-leaves, leave-goes}
 use Rattle.quiet_laws.proofs.HearingSteps.{goes-work, happens-on, lists-cleared, news-goes, saved-goes, takes-ends, takes-goes, takes-on, then-goes, then-takes}
 use Rattle.quiet_laws.proofs.HearingSteps.{watched-go}
 use Rattle.quiet_laws.proofs.HearingWork.{Asks, MayWait, asks-same, build-ends, fetch-ends, fire-ticket, folders-ask, load-ends, renewed-asks, request-asks}
 use Rattle.quiet_laws.proofs.HearingWork.{settings-ask, ticket}
-use Rattle.quiet_laws.proofs.Parts.{asking-leaves, notified-leaves, passes-timers, spawned-leaves, timers_in}
+use Rattle.quiet_laws.proofs.Parts.{LeavesAll, asking-leaves, leaving, notified-leaves, passes-timers, spawned-leaves, timers_in, told-leave}
 use Rattle.quiet_laws.proofs.Resting.{HoldsNone, IsIdle}
 
 -- ---- requests, answers and folders
 
-pub request-goes : (meaning : Meaning) (r : Request) (w : TurnState State) → IfOk (request_taken meaning r w) (Goes w)
-request-goes meaning r w =
+answered-goes : (meaning : Meaning) (r : Request) (w : TurnState State) → IfOk (request_answered meaning r w) (Goes w)
+answered-goes meaning r w =
     let desk : TurnState Desk = record { state = w.state.desk; out = w.out } in
     then-goes (at_desk (requested meaning (scene_of w.state) r) w) _ w
     (goes-desk (requested meaning (scene_of w.state) r) w
     (IfOk-weaker (requested meaning (scene_of w.state) r desk) _ (λ (v : TurnState Desk). (v.state.turns ≡ w.state.desk.turns) × Passes w.out v.out)
     (request-settles meaning (scene_of w.state) r desk) (λ v settled. (settled.turns, settled.others))))
     (λ v. goes-work v (request_told r w.state.desk v.state.workspaces) (request-asks v.state.desk.turns r w.state.desk v.state.workspaces))
+
+pub request-goes : (meaning : Meaning) (r : Request) (w : TurnState State) → IfOk (request_taken meaning r w) (Goes w)
+request-goes meaning r w =
+    let run = run_asked_by r w.state.desk in
+    then-goes (tests_run run w) (request_answered meaning r) w (leave-goes (tests_run run w) w (tests-run-owe LeavesAll leaving run w))
+    (answered-goes meaning r)
 
 goes-client : (w : TurnState State) (client : Client) (out : Written) → Passes w.out out → Goes w (record { state = with_client client w.state; out = out })
 goes-client w client out passes = record {
@@ -95,8 +112,12 @@ answer-goes r w =
     then-goes (at_client (λ c. Ok (answered r c)) w) _ w
     (IfOk-within client_in with_client (λ c. Ok (answered r c)) w (Goes w)
     (goes-client w (answered r client).state (answered r client).out (answered-passes r client)))
-    (λ v. goes-work v (settings_told w.state.client.settings v.state.client.settings v.state.workspaces)
+    (λ v. let u : TurnState State = at_workspaces (settings_told w.state.client.settings v.state.client.settings) v in
+    let other : Bool = has_other_checks w.state.client.settings v.state.client.settings in
+    goes-then-leaves v u (checks_renewed_if other u)
+    (goes-work v (settings_told w.state.client.settings v.state.client.settings v.state.workspaces)
     (settings-ask v.state.desk.turns w.state.client.settings v.state.client.settings v.state.workspaces))
+    (renewed_if-owes LeavesAll leaving other u))
 
 folders-go : (added removed : List (List ℕ)) (w : TurnState State) → IfOk (folders_taken added removed w) (Goes w)
 folders-go added removed w =
@@ -128,12 +149,18 @@ told-goes (notices.DidSave uri) none w = saved-goes (path_of uri) uri w
 told-goes notices.DidChangeConfiguration none w =
     IfOk-weaker _ _ (Goes w) (asking-leaves Configuration Settings w) (goes-leaves w)
 told-goes (notices.DidChangeWorkspaceFolders added removed) none w = folders-go added removed w
-told-goes (notices.DidChangeWatchedFiles urls) none w = watched-go map.empty urls w
-told-goes (notices.CancelProgress token) none w = goes-none w
-told-goes notices.CancelFlycheck none w = goes-none w
+told-goes (notices.DidChangeWatchedFiles urls) none w =
+    let v : TurnState State = files_changed map.empty urls w in
+    let restarts : Bool = restart_checks w.state.client.settings urls in
+    goes-then-leaves w v (checks_restarted_if restarts v) (watched-go map.empty urls w) (restarted_if-owes LeavesAll leaving restarts v)
+told-goes (notices.CancelProgress token) none w =
+    let told : List Telling = cancelled_under token w.state.activities.checks in leave-goes (tellings_told told w) w (told-leave told w)
+told-goes notices.CancelFlycheck none w =
+    let told : List Telling = all_cancelled w.state.activities.checks in leave-goes (tellings_told told w) w (told-leave told w)
 told-goes notices.ClearFlycheck none w = goes-board w (after_act ForgetsAll w.state.board) refl
-told-goes (notices.RunFlycheck uri) none w = goes-none w
-told-goes notices.AbortRunTest none w = goes-none w
+told-goes (notices.RunFlycheck uri) none w = checks-run-go uri w
+told-goes notices.AbortRunTest none w =
+    let told = aborted w.state.activities.tests in leave-goes (tests_announced told w) w (tests-announced-owe LeavesAll leaving told w)
 
 goes-happens : (r : Result (TurnState State) Counter) (w : TurnState State) → IfOk r (Goes w) → IfOk r (Happens w)
 goes-happens r w goes = IfOk-weaker r (Goes w) (Happens w) goes (λ v x. (takes-goes w v x).happens)
@@ -189,17 +216,20 @@ build-takes made w =
 
 -- crate data comes, and behind it the files are processed; none does where no load is in progress
 load-cases : (crates : Option CrateData) (told : LoadEnd) (w : TurnState State) → (IsIdle w.state.workspaces → crates ≡ None)
-    → IfOk (and_then (crates_arrived crates (at_workspaces (load_kept told) w)) (files_processed_if (is_some crates))) (Takes w)
-unfolding crates_arrived files_processed_if
+    → IfOk (and_then (crates_arrived crates (at_workspaces (load_kept told) w)) (crates_settled_if (is_some crates))) (Takes w)
+unfolding crates_arrived crates_settled_if
 load-cases None told w none = takes-ends w (load_kept told w.state.workspaces) (load-ends told w.state.workspaces)
 load-cases (Some crates) told w none =
     let v : TurnState State = at_workspaces (load_kept told) w in
     let ended : Happens w v = (takes-ends w (load_kept told w.state.workspaces) (load-ends told w.state.workspaces)).happens in
     IfOk-weaker _ (Happens w) (Takes w)
-    (IfOk-and_then (at_files (crates_put v.state.sources.roots crates) v) (files_processed_if true) (Hears v.state.files.progress_version v) (Happens w)
+    (IfOk-and_then (at_files (crates_put v.state.sources.roots crates) v) (crates_settled_if true) (Hears v.state.files.progress_version v) (Happens w)
     (crates-hear v.state.sources.roots crates v)
-    (λ u hears. IfOk-weaker (files_processed u) (Happens u) (Happens w) (processed-happens u)
-    (λ x happens. happens-on w v x ended (happens-on v u x (hears-happens v u hears) happens))))
+    (λ u hears. IfOk-and_then (files_processed u) (checks_renewed_if true) (Happens w) (Happens w)
+    (IfOk-weaker (files_processed u) (Happens u) (Happens w) (processed-happens u)
+    (λ x happens. happens-on w v x ended (happens-on v u x (hears-happens v u hears) happens)))
+    (λ x happens. IfOk-weaker (checks_renewed_if true x) (LeavesAll x) (Happens w) (renewed_if-owes LeavesAll leaving true x)
+    (λ y leaves. happens-on w x y happens (takes-goes x y (goes-leaves x y leaves)).happens))))
     (λ x happens. record { happens = happens; calms = λ idle. none-some crates (sym (none idle)) })
 
 load-takes : (told : LoadEnd) (w : TurnState State) → IfOk (load_taken told w) (Takes w)
@@ -223,17 +253,23 @@ unfolding end_taken
 end-takes None w = takes-goes w w (goes-none w)
 end-takes (Some end) w = work-takes end w
 
+followed-takes : (end : Option WorkEnd) (told : List Telling) (w : TurnState State) → IfOk (work_followed end told w) (Takes w)
+unfolding work_followed
+followed-takes end told w =
+    then-takes (end_taken end w) (tellings_told told) w (end-takes end w) (λ v. goes-takes (tellings_told told v) v (leave-goes (tellings_told told v) v (told-leave told v)))
+
 message-takes : (meaning : Meaning) (message : TaskMsg) (w : TurnState State) → IfOk (message_taken meaning message w) (Takes w)
 unfolding message_taken
 message-takes meaning message w =
     let desk : TurnState Desk = record { state = w.state.desk; out = w.out } in
     let taken : Result (TurnState State) Counter = at_desk (taken_at_desk meaning (scene_of w.state) message) w in
-    then-takes taken (end_taken (work_ended message w.state.desk.jobs)) w
+    let told : List Telling = job_told message.body (fitting_job message w.state.desk.jobs) in
+    then-takes taken (work_followed (work_ended message w.state.desk.jobs) told) w
     (goes-takes taken w (goes-desk (taken_at_desk meaning (scene_of w.state) message) w
     (IfOk-weaker (taken_at_desk meaning (scene_of w.state) message desk) _
     (λ (v : TurnState Desk). (v.state.turns ≡ w.state.desk.turns) × Passes w.out v.out)
     (message-settles meaning (scene_of w.state) message desk) (λ v settled. (settled.turns, settled.others)))))
-    (end-takes (work_ended message w.state.desk.jobs))
+    (followed-takes (work_ended message w.state.desk.jobs) told)
 
 pub batch-takes : (meaning : Meaning) (batch : List TaskMsg) (w : TurnState State) → IfOk (batched meaning batch w) (Takes w)
 batch-takes meaning [] w = takes-goes w w (goes-none w)
@@ -261,7 +297,7 @@ pub record Happened (event : Event) (w v : TurnState State) : Type 0 where
   pub versions : versions_of v.state.workspaces ≡ versions_of w.state.workspaces
   pub holds : HoldsNone w.state.workspaces → HoldsNone v.state.workspaces
 
-brought-happens : (messages : List LoaderMsg) (w : TurnState State) → IfOk (loader_taken messages w) (Happened (Vfs messages) w)
+brought-happens : (messages : List LoaderMsg) (w : TurnState State) → IfOk (loader_brought messages w) (Happened (Vfs messages) w)
 brought-happens messages w =
     IfOk-and_then (at_files (loaded messages) w) _ (Hears (progress_after_messages messages w.state.files.progress_version) w) (Happened (Vfs messages) w)
     (loader-hears messages w)
@@ -282,6 +318,23 @@ brought-happens messages w =
       holds = goes.holds;
     })
 
+-- and what leaves all behind it
+happened-leaves : (event : Event) (w v u : TurnState State) → Happened event w v → LeavesAll v u → Happened event w u
+happened-leaves event w v u h leaves = record {
+  progress = ap (λ (f : SessionFiles). f.progress_version) leaves.files ∙ h.progress;
+  turns = leaves.turns ∙ h.turns;
+  timers = leaves.out _ passes-timers ∙ h.timers;
+  timer = subst (λ (ws : Workspaces). MayWait w.state.desk.turns (timer_left (Next event) (ticket w.state.workspaces)) (ticket ws)) (sym leaves.workspaces) h.timer;
+  versions = ap versions_of leaves.workspaces ∙ h.versions;
+  holds = λ holds. subst HoldsNone (sym leaves.workspaces) (h.holds holds);
+}
+
+loader-happens : (messages : List LoaderMsg) (w : TurnState State) → IfOk (loader_taken messages w) (Happened (Vfs messages) w)
+loader-happens messages w =
+    let told : List Telling = scans_told w.state.client.settings.root_path messages in
+    IfOk-and_then (loader_brought messages w) (tellings_told told) (Happened (Vfs messages) w) (Happened (Vfs messages) w) (brought-happens messages w)
+    (λ v h. IfOk-weaker (tellings_told told v) (LeavesAll v) (Happened (Vfs messages) w) (told-leave told v) (λ u leaves. happened-leaves (Vfs messages) w v u h leaves))
+
 pub happened-is : (meaning : Meaning) (event : Event) (w : TurnState State) → IfOk (happened meaning event w) (Happened event w)
 unfolding happened
 happened-is meaning (Lsp message) w = IfOk-weaker (received meaning message w) (Happens w) (Happened (Lsp message) w) (received-happens meaning message w)
@@ -289,13 +342,13 @@ happened-is meaning (Lsp message) w = IfOk-weaker (received meaning message w) (
 happened-is meaning (Task batch) w = IfOk-weaker (batched meaning batch w) (Takes w) (Happened (Task batch) w) (batch-takes meaning batch w)
     (λ v x. let h = x.happens in
     record { progress = h.progress; turns = h.turns; timers = h.timers; timer = h.timer; versions = h.versions; holds = h.holds })
-happened-is meaning (Vfs messages) w = brought-happens messages w
+happened-is meaning (Vfs messages) w = loader-happens messages w
 happened-is meaning (Deferred tasks) w = IfOk-weaker (all_resumed tasks w) (Goes w) (Happened (Deferred tasks) w) (all-resume tasks w)
     (λ v x. let h = (takes-goes w v x).happens in
     record { progress = h.progress; turns = h.turns; timers = h.timers; timer = h.timer; versions = h.versions; holds = h.holds })
-happened-is meaning (News news) w =
-    let h = (takes-goes w _ (news-goes news w)).happens in
-    record { progress = h.progress; turns = h.turns; timers = h.timers; timer = h.timer; versions = h.versions; holds = h.holds }
+happened-is meaning (News news) w = IfOk-weaker (news_taken news w) (Goes w) (Happened (News news) w) (news-goes news w)
+    (λ v x. let h = (takes-goes w v x).happens in
+    record { progress = h.progress; turns = h.turns; timers = h.timers; timer = h.timer; versions = h.versions; holds = h.holds })
 happened-is meaning (Timer number) w = record {
   progress = refl;
   turns = refl;

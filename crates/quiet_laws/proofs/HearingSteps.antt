@@ -42,7 +42,15 @@ use Rattle.session_laws.proofs.Passing.{Passes}
 use Rattle.session_laws.proofs.Running.{versions_of}
 use Rattle.session_files.specs.SessionFiles.{SessionFiles}
 use Rattle.quiet_laws.specs.Heard.{timer_of}
-use Rattle.quiet_laws.proofs.Parts.{LeavesAll, passes-timers, timers_in}
+use Rattle.session_model.specs.Machine.{checks_announced, checks_heard, checks_restarted_if, checks_run, file_checked_at, file_checked_if, saved_file}
+use Rattle.session_model.specs.Machine.{tests_announced, tests_heard}
+use Rattle.session_model.specs.Restarting.{checks_all_on_save, checks_on_save, checks_workspaces}
+use Rattle.activities.specs.Checks.{progressed}
+use Rattle.activities.specs.TestRun.{test_told}
+use Rattle.session_port.specs.declared.news.TestMsg.{TestMsg}
+use Rattle.notify.specs.declared.outgo.Outgo.TheVariants.{DiagnosticRefresh}
+use Rattle.session_laws.proofs.Announcing.{checked_if-owes, checks-announced-owe, restarted_if-owes, tests-announced-owe}
+use Rattle.quiet_laws.proofs.Parts.{LeavesAll, asked_if-leaves, leaving, passes-timers, timers_in}
 use Rattle.quiet_laws.proofs.HearingWork.{Asks, Ends, MayWait, asks-on, asks-same, save-asks, ticket, wait-on}
 use Rattle.quiet_laws.proofs.Resting.{HoldsNone, IsIdle}
 
@@ -102,6 +110,9 @@ goes-leaves w v leaves = record {
   work = asks-same w.state.desk.turns w.state.workspaces v.state.workspaces leaves.workspaces;
 }
 
+pub leave-goes : (r : Result (TurnState State) Counter) (w : TurnState State) → IfOk r (LeavesAll w) → IfOk r (Goes w)
+leave-goes r w leaves = IfOk-weaker r (LeavesAll w) (Goes w) leaves (goes-leaves w)
+
 pub goes-ordered : (command : Command) (w : TurnState State) → timer_of command ≡ None → Goes w (ordered command w)
 unfolding ordered
 goes-ordered command w none = goes-same w (ordered command w) refl
@@ -147,14 +158,39 @@ unfolding save_noted
 noted-goes true path w = goes-logged UnknownSave path w
 noted-goes false path w = goes-none w
 
-pub saved-goes : (o : Result (List ℕ) UrlFault) (uri : List ℕ) (w : TurnState State) → Goes w (saved_at o uri w)
-unfolding saved_at
-saved-goes (Err fault) uri w = goes-logged _ uri w
-saved-goes (Ok path) uri w =
+-- a step, and what leaves all behind it
+pub goes-then-leaves : (w v : TurnState State) (r : Result (TurnState State) Counter) → Goes w v → IfOk r (LeavesAll v) → IfOk r (Goes w)
+goes-then-leaves w v r goes leaves = IfOk-weaker r (LeavesAll v) (Goes w) leaves (λ u x. goes-on w v u goes (goes-leaves v u x))
+
+saved-file-goes : (path : List ℕ) (w : TurnState State) → Goes w (saved_file path w)
+saved-file-goes path w =
     let noted : TurnState State = save_noted (is_unknown w.state.files.ids path) path w in
     goes-on w noted _ (noted-goes (is_unknown w.state.files.ids path) path w)
     (goes-work noted (path_saved w.state.client.settings w.state.files path noted.state.workspaces)
     (save-asks noted.state.desk.turns w.state.client.settings w.state.files path noted.state.workspaces))
+
+pub saved-goes : (o : Result (List ℕ) UrlFault) (uri : List ℕ) (w : TurnState State) → IfOk (saved_at o uri w) (Goes w)
+unfolding saved_at
+saved-goes (Err fault) uri w =
+    let v : TurnState State = logged BadPath uri w in
+    let wanted : Bool = checks_all_on_save w.state.client.settings in
+    goes-then-leaves w v (checks_restarted_if wanted v) (goes-logged BadPath uri w) (restarted_if-owes LeavesAll leaving wanted v)
+saved-goes (Ok path) uri w =
+    let v : TurnState State = saved_file path w in
+    let wanted : Bool = checks_on_save w.state.client.settings w.state.files.host.world.roots path in
+    goes-then-leaves w v (file_checked_if wanted path v) (saved-file-goes path w) (checked_if-owes LeavesAll leaving wanted path v)
+
+checked-at-goes : (uri : List ℕ) (o : Result (List ℕ) UrlFault) (w : TurnState State) → IfOk (file_checked_at uri o w) (Goes w)
+unfolding file_checked_at
+checked-at-goes uri (Err fault) w = goes-logged BadPath uri w
+checked-at-goes uri (Ok path) w = leave-goes (file_checked_if true path w) w (checked_if-owes LeavesAll leaving true path w)
+
+pub checks-run-go : (uri : Option (List ℕ)) (w : TurnState State) → IfOk (checks_run uri w) (Goes w)
+unfolding checks_run
+checks-run-go None w =
+    let wanted : Bool = checks_workspaces w.state.client.settings in
+    leave-goes (checks_restarted_if wanted w) w (restarted_if-owes LeavesAll leaving wanted w)
+checks-run-go (Some uri) w = checked-at-goes uri (path_of uri) w
 
 file-goes : (url : List ℕ) (o : Result (List ℕ) UrlFault) (w : TurnState State) → Goes w (file_changed url o w)
 unfolding file_changed
@@ -186,21 +222,37 @@ outdated-cleared id (Some of_package) None board = refl
 outdated-cleared id None (Some generation) board = refl
 outdated-cleared id (Some of_package) (Some generation) board = refl
 
-check-goes : (message : FlycheckMsg) (w : TurnState State) → Goes w (check_told message w)
+check-goes : (message : FlycheckMsg) (w : TurnState State) → IfOk (check_told message w) (Goes w)
 unfolding check_told
 check-goes (checks.AddDiagnostic id generation of_package path diagnostic fix) w =
     found-goes id generation of_package path diagnostic fix (map.get w.state.files.ids path) w
 check-goes (checks.ClearDiagnostics id of_package older_than) w = goes-board w _ (outdated-cleared id of_package older_than w.state.board)
-check-goes (checks.Progress id progress) w = goes-none w
+check-goes (checks.Progress id progress) w =
+    let told = progressed w.state.client.settings id progress w.state.activities.checks in
+    leave-goes (checks_announced told w) w (checks-announced-owe LeavesAll leaving told w)
 
-checks-go : (messages : List FlycheckMsg) (w : TurnState State) → Goes w (checks_told messages w)
+checks-go : (messages : List FlycheckMsg) (w : TurnState State) → IfOk (checks_told messages w) (Goes w)
+unfolding checks_told
 checks-go [] w = goes-none w
-checks-go (message ∷ messages) w = goes-on w (check_told message w) _ (check-goes message w) (checks-go messages (check_told message w))
+checks-go (message ∷ later) w = then-goes (check_told message w) (checks_told later) w (check-goes message w) (checks-go later)
 
-pub news-goes : (news : NewsData) (w : TurnState State) → Goes w (news_taken news w)
+checks-heard-go : (messages : List FlycheckMsg) (w : TurnState State) → IfOk (checks_heard messages w) (Goes w)
+unfolding checks_heard
+checks-heard-go messages w =
+    then-goes (checks_told messages w) _ w (checks-go messages w) (λ v. leave-goes _ v (asked_if-leaves _ DiagnosticRefresh v))
+
+tests-heard-go : (messages : List TestMsg) (w : TurnState State) → IfOk (tests_heard messages w) (Goes w)
+unfolding tests_heard
+tests-heard-go [] w = goes-none w
+tests-heard-go (message ∷ later) w =
+    let told = test_told message w.state.activities.tests in
+    then-goes (tests_announced told w) (tests_heard later) w (leave-goes (tests_announced told w) w (tests-announced-owe LeavesAll leaving told w))
+    (tests-heard-go later)
+
+pub news-goes : (news : NewsData) (w : TurnState State) → IfOk (news_taken news w) (Goes w)
 unfolding news_taken
-news-goes (told_news.Flycheck messages) w = checks-go messages w
-news-goes (told_news.TestResult messages) w = goes-none w
+news-goes (told_news.Flycheck messages) w = checks-heard-go messages w
+news-goes (told_news.TestResult messages) w = tests-heard-go messages w
 news-goes (told_news.DiscoverProject messages) w = goes-none w
 
 -- ---- lists that come

@@ -20,13 +20,14 @@ use Rattle.workspaces.specs.declared.follows.Follows.{Follows}
 use Rattle.workspaces.specs.declared.follows.Follows.TheVariants.{Nothing, CrateData, Wait, GoOn}
 use Rattle.session_model.specs.Crates.{Numbers, builds_crates, crate_data, crates_sought, followed_by, waits, with_crates}
 use Rattle.session_model.specs.Machine.{at_workspaces, crates_built, loader_set, roots_renewed, switch_done, switch_followed, switch_taken, warned}
-use Rattle.session_model.specs.Machine.{watchers_registered}
+use Rattle.session_model.specs.Machine.{tellings_told, watchers_registered}
+use Rattle.activities.specs.Work.{graph_told}
 use Rattle.session_model.specs.State.{State, builds_scripts, discovers}
 use Rattle.session_model.specs.Switching.{is_switch_due, switch_by, switch_made, unless_exhausted}
 use Rattle.quiet_laws.specs.Heard.{timer_of}
 use Rattle.quiet_laws.proofs.Bools.{else-is, true-false}
 use Rattle.quiet_laws.proofs.HearingFiles.{Hears, crates-hear}
-use Rattle.quiet_laws.proofs.Parts.{LeavesAll, asked_if-leaves, leaves-none, notified-leaves, passes-timers, timers_in}
+use Rattle.quiet_laws.proofs.Parts.{LeavesAll, asked_if-leaves, leaves-none, notified-leaves, passes-timers, timers_in, told-leave}
 use Rattle.quiet_laws.proofs.Resting.{HoldsNone}
 
 -- ---- the workspaces
@@ -148,13 +149,16 @@ renewed-tells version w = record {
 follows-tell : (follows : Follows) (w : TurnState State) → IfOk (switch_followed follows w) (Tells w)
 unfolding switch_followed watchers_registered
 follows-tell Nothing w = tells-leaves w w (leaves-none w)
-follows-tell CrateData w = tells-leaves w w (leaves-none w)
+follows-tell CrateData w = IfOk-weaker (tellings_told graph_told w) (LeavesAll w) (Tells w) (told-leave graph_told w) (tells-leaves w)
 follows-tell (Wait msrv) w = warned-tells msrv w
 follows-tell (GoOn msrv version initial) w =
     let v : TurnState State = warned msrv w in
-    IfOk-and_then (watchers_registered v) (λ u. Ok (roots_renewed (loader_set version u))) (LeavesAll v) (Tells w)
+    IfOk-and_then (watchers_registered v) (λ u. tellings_told graph_told (roots_renewed (loader_set version u))) (LeavesAll v) (Tells w)
     (asked_if-leaves _ _ v)
-    (λ u leaves. tells-on w v _ (warned-tells msrv w) (tells-on v u _ (tells-leaves v u leaves) (renewed-tells version u)))
+    (λ u leaves. let r : TurnState State = roots_renewed (loader_set version u) in
+    IfOk-weaker (tellings_told graph_told r) (LeavesAll r) (Tells w) (told-leave graph_told r)
+    (λ x all. tells-on w v x (warned-tells msrv w) (tells-on v u x (tells-leaves v u leaves)
+    (tells-on u r x (renewed-tells version u) (tells-leaves r x all)))))
 
 built-hears : (built : Bool) (w : TurnState State) → IfOk (crates_built built w) (Hears w.state.files.progress_version w)
 unfolding crates_built

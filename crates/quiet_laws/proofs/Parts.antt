@@ -42,7 +42,9 @@ use Rattle.session_model.specs.Loading.{MacroPaths, load_due, load_kind, with_du
 use Rattle.session_model.specs.Machine.{all_asked, all_published, asked_if, at_board, at_client, at_desk, at_workspaces, batch_asked, batch_done, begun_fetches}
 use Rattle.session_model.specs.Machine.{build_handed_over, build_started, came_or_went, client_in, client_refreshed, desk_in, desk_kept, fetch_handed_over}
 use Rattle.session_model.specs.Machine.{fetch_started, files_published, load_handed_over, load_started, marked_published, published_at, quiet_done}
-use Rattle.session_model.specs.Machine.{refreshes_done}
+use Rattle.session_model.specs.Machine.{checks_done, refreshes_done, tellings_told}
+use Rattle.activities.specs.declared.telling.Telling.{Telling}
+use Rattle.session_laws.proofs.Announcing.{Announcing, checks-done-owe, told-owe}
 use Rattle.session_model.specs.Machine.{revised, runs_started, saves_registered, status_changed, status_done, status_kept, status_told, text_shown, timer_set}
 use Rattle.session_model.specs.Machine.{turn_closed, with_client, with_desk}
 use Rattle.session_model.specs.State.{State, discovers, fetch_kind, snapshot_of, watched_names}
@@ -116,6 +118,18 @@ asking-leaves message handler w =
       out = p.0.passes;
     }))
 
+-- and what is told of work beside the jobs
+pub leaving : Announcing LeavesAll
+leaving = record {
+  on = all-on;
+  says = λ w out s none. record { files = refl; settings = refl; cleared = refl; turns = refl; workspaces = refl; out = s.passes };
+  asks = λ handler w out s none. record { files = refl; settings = refl; cleared = refl; turns = refl; workspaces = refl; out = s.passes };
+  activities = λ w activities. record { files = refl; settings = refl; cleared = refl; turns = refl; workspaces = refl; out = passes-none w.out };
+}
+
+pub told-leave : (told : List Telling) (w : TurnState State) → IfOk (tellings_told told w) (LeavesAll w)
+told-leave told w = told-owe LeavesAll leaving told w
+
 pub asked_if-leaves : (wanted : Bool) (message : Outgo) (w : TurnState State) → IfOk (asked_if wanted message w) (LeavesAll w)
 unfolding asked_if
 asked_if-leaves true message w = asking-leaves message Ignore w
@@ -184,7 +198,9 @@ batch-done-leaves came facts w =
 pub quiet-leaves : (input : Input) (facts : FactsBefore) (w : TurnState State) → IfOk (quiet_done input facts w) (LeavesAll w)
 unfolding quiet_done
 quiet-leaves input facts w =
-    then-leaves (refreshes_done facts w) (batch_done (came_or_went input) facts) w (refreshes-leave facts w) (batch-done-leaves (came_or_went input) facts)
+    let came : Bool = came_or_went input in
+    then-leaves (checks_done facts w) (λ v. and_then (refreshes_done facts v) (batch_done came facts)) w (checks-done-owe LeavesAll leaving facts w)
+    (λ v. then-leaves (refreshes_done facts v) (batch_done came facts) v (refreshes-leave facts v) (batch-done-leaves came facts))
 
 -- ---- what is published
 
@@ -284,7 +300,7 @@ shown-leaves false (Some text) w = notified-leaves (ShowMessage text.0 text.1) w
 pub status-leaves : (w : TurnState State) → IfOk (status_done w) (LeavesAll w)
 unfolding status_done status_kept status_changed status_told
 status-leaves w =
-    let status : Status = status_now w.state.client w.state.files w.state.workspaces in
+    let status : Status = status_now w.state.client w.state.files w.state.workspaces w.state.activities.checks in
     then-leaves (status_changed status w) _ w
     (IfOk-if (is_same_status w.state.status status) (Ok w) (status_told status w) (LeavesAll w) (leaves-none w)
     (IfOk-if (takes_status w.state.client.settings) _ _ (LeavesAll w) (notified-leaves (status_message status) w)
@@ -302,7 +318,9 @@ abbrev pub timers_in : TurnState State → List ℕ
 timers_in w = filter_map timer_of w.out.commands
 
 pub passes-timers : PassesOver timer_of
-passes-timers = record { jobs = λ job. refl; logs = λ code text. refl; defers = λ task. refl }
+passes-timers = record { jobs = λ job. refl; logs = λ code text. refl; defers = λ task. refl;
+      sets = λ checks. refl; restarts = λ id scope. refl; cancels = λ id. refl; runs = λ include exclude. refl;
+      stops = refl; discovers = λ arg. refl }
 
 -- the timer that is ordered
 abbrev pub timer_due : State → List ℕ

@@ -11,7 +11,7 @@ use Rattle.workspaces.specs.Workspaces.{Workspaces}
 use Rattle.session_model.specs.Fetching.{with_fetches}
 use Rattle.session_model.specs.Machine.{begin_part, begun_fetches, build_part, closing_part, event_part, event_taken, facts_before, fetch_part, fetch_started}
 use Rattle.session_model.specs.Machine.{files_done, files_part, in_state, later_parts, marked_published, prime_part, publish_part, quiet_done, quiet_part}
-use Rattle.session_model.specs.Machine.{register_part}
+use Rattle.session_model.specs.Machine.{crates_come, register_part}
 use Rattle.session_model.specs.Machine.{runs_started, saves_registered, some_processed, start_parts, state_in, status_done, status_part, step, switch_done}
 use Rattle.session_model.specs.Machine.{switch_part, turn_closed, turned, Turning, turning, with_state}
 use Rattle.session_model.specs.OwnJobs.{before_quiet}
@@ -115,7 +115,10 @@ pub record Split (meaning : Meaning) (s : State) (event : Event) (v : TurnState 
   pub switches : switch_done happened ≡ Ok switched
   pub processes : files_done switched ≡ Ok processed
   pub before : before_quiet meaning (Next event) s
-      ≡ record { state = processed.state; facts = record (facts_before (turn_start s)) { processed = some_processed switched.state.files } }
+      ≡ record {
+        state = processed.state;
+        facts = record (facts_before (turn_start s)) { crates = crates_come happened.state; processed = some_processed switched.state.files };
+      }
   pub behind : Behind processed v
 
 -- the files, and what is known of them
@@ -135,28 +138,57 @@ files-is t = both (files_part t) (IfOk-self (files_part t))
     both (Ok v) p q = (p, q.0, q.1)
     both (Err counter) p q = tt
 
+-- the switch, and whether crate data comes with it
+record Switched (t v : TurnState Turning) : Type 0 where
+  whole : switch_part t ≡ Ok v
+  is : switch_done (session_in t) ≡ Ok (session_in v)
+  facts : v.state.facts ≡ record t.state.facts { crates = crates_come t.state.state }
+
+switched-is : (t : TurnState Turning) → IfOk (switch_part t) (Switched t)
+switched-is t = both (switch_part t) refl (switched t)
+  where
+    Known : TurnState Turning → Type 0
+    Known v = (switch_done (session_in t) ≡ Ok (session_in v)) × (v.state.facts ≡ record t.state.facts { crates = crates_come t.state.state })
+
+    switched : (t : TurnState Turning) → IfOk (switch_part t) (λ v. (switch_done (session_in t) ≡ Ok (session_in v))
+        × (v.state.facts ≡ record t.state.facts { crates = crates_come t.state.state }))
+    unfolding switch_part
+    switched t =
+        IfOk-and_then (in_state switch_done t) _ (Is switch_done t)
+        (λ v. (switch_done (session_in t) ≡ Ok (session_in v)) × (v.state.facts ≡ record t.state.facts { crates = crates_come t.state.state }))
+        (within-is switch_done t)
+        (λ v is. (is.is, ap (λ (f : FactsBefore). record f { crates = crates_come t.state.state }) is.facts))
+
+    both : (r : Result (TurnState Turning) Counter) → r ≡ switch_part t → IfOk r Known → IfOk r (Switched t)
+    both (Ok v) same known = record { whole = sym same; is = known.0; facts = known.1 }
+    both (Err counter) same known = tt
+
 stands : (meaning : Meaning) (s : State) (event : Event) (a b c : TurnState Turning) → Is (event_taken meaning event) (turning (turn_start s)) a
-    → Is switch_done a b
+    → Switched a b
     → (files_part b ≡ Ok c) × (files_done (session_in b) ≡ Ok (session_in c))
     × (c.state.facts ≡ record b.state.facts { processed = some_processed b.state.state.files })
     → before_quiet meaning (Next event) s
-    ≡ record { state = c.state.state; facts = record (facts_before (turn_start s)) { processed = some_processed b.state.state.files } }
-unfolding event_part switch_part
+    ≡ record {
+      state = c.state.state;
+      facts = record (facts_before (turn_start s)) { crates = crates_come a.state.state; processed = some_processed b.state.state.files };
+    }
+unfolding event_part
 stands meaning s event a b c taken made filed =
     ap (λ r. (result_unwrap_or r (turning (turn_start s))).state)
     (ap (λ r. and_then r (λ w. and_then (switch_part w) files_part)) taken.whole ∙ ap (λ r. and_then r files_part) made.whole ∙ filed.0)
     ∙ ap (λ (f : FactsBefore). let t : Turning = record { state = c.state.state; facts = f } in t)
-    (filed.2 ∙ ap (λ (f : FactsBefore). record f { processed = some_processed b.state.state.files }) (made.facts ∙ taken.facts))
+    (filed.2 ∙ ap (λ (f : FactsBefore). record f { processed = some_processed b.state.state.files })
+    (made.facts ∙ ap (λ (f : FactsBefore). record f { crates = crates_come a.state.state }) taken.facts))
 
 pub step-splits : (meaning : Meaning) (s : State) (event : Event) → IfOk (step meaning (Next event) (turn_start s)) (Split meaning s event)
-unfolding step event_part switch_part
+unfolding step event_part
 step-splits meaning s event =
     let t : TurnState Turning = turning (turn_start s) in
     let Goal : TurnState State → Type 0 = Split meaning s event in
     IfOk-and_then (and_then (event_part meaning event t) (later_parts (Next event))) turned (Ends Goal) Goal
     (IfOk-and_then (event_part meaning event t) (later_parts (Next event)) (Is (event_taken meaning event) t) (Ends Goal)
     (within-is (event_taken meaning event) t)
-    (λ a taken. IfOk-and_then (switch_part a) _ (Is switch_done a) (Ends Goal) (within-is switch_done a)
+    (λ a taken. IfOk-and_then (switch_part a) _ (Switched a) (Ends Goal) (switched-is a)
     (λ b made. IfOk-and_then (files_part b) _ _ (Ends Goal) (files-is b)
     (λ c filed. IfOk-weaker _ (Ends (Behind (session_in c))) (Ends Goal) (later-ends event c)
     (λ v x. record {

@@ -3,7 +3,6 @@ pub mod Errors
 pub mod Graph
 pub mod GraphLaws
 pub mod Names
-pub mod Progress
 pub mod Refresh
 pub mod Switch
 pub mod Watchers

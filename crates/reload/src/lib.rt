@@ -9,7 +9,6 @@ mod laws;
 mod macro_paths;
 mod names;
 mod places;
-mod progress;
 mod refresh;
 mod switch;
 mod switching;
@@ -26,7 +25,6 @@ pub use laws::{
 pub use lsp_types::Watcher;
 pub use names::eq_ignore_underscore;
 pub use plain::NoMemory;
-pub use progress::Progress;
 pub use refresh::should_refresh_for_change;
 pub use switch::Switch;
 pub use switching::switch_workspaces;

@@ -2,14 +2,17 @@
 ghost use Rattle.std.specs.Prelude.{◌≡◌, Ok, IfOk, OnOk};
 ghost use Rattle.std.specs.FinMap as map;
 ghost use Rattle.op_board.specs.Acts.{step as after_act};
-ghost use Rattle.session_port.specs.Refines.{RefinesTotal};
+ghost use Rattle.session_port.specs.Refines.{Refines, RefinesTotal};
 ghost use Rattle.session_model.specs.Diagnosing.{fix_in, outdated_act};
-ghost use Rattle.session_model.specs.Machine.{check_told, checks_told, found_added, news_taken};
+ghost use Rattle.session_model.specs.Machine.{check_told, checks_heard, checks_told, found_added, news_taken};
 
+use activities::end_checks;
 use docs_vfs::{FileExcluded, FileId, VfsPath};
 use lsp_types::Diagnostic;
+use notify::Outgo;
 use op_board::{CheckFix, DiagnosticCollection};
 use plain::{Items, Json, SharedJson, Text};
+use session_activities::{hear_tests, take_progress};
 use session_model::{News, TurnError};
 use session_port::{FlycheckMsg, LogCode, TurnOut};
 use session_store::{Store, log};
@@ -79,14 +82,14 @@ fn forget(
     }
 }
 
-// A message of a check. How far it is changes nothing yet.
+// A message of a check.
 #[tactic(auto, unfolding(session_model::specs::Machine::check_told))]
 fn take_check_message(
     store: &mut Store,
     message: FlycheckMsg,
     out: &mut TurnOut,
 ) -> Result<(), TurnError>
-    ensures { RefinesTotal result (check_told message (record { state = store.old; out = out.old })) store.new out.new }
+    ensures { Refines result (check_told message (record { state = store.old; out = out.old })) store.new out.new }
 {
     match message {
         FlycheckMsg::AddDiagnostic {
@@ -105,20 +108,18 @@ fn take_check_message(
             forget(&mut store.board, id, package, older_than)?;
             Ok(())
         }
-        FlycheckMsg::Progress { progress, .. } => {
-            drop(progress);
-            Ok(())
-        }
+        FlycheckMsg::Progress { id, progress } => take_progress(store, id, progress, out),
     }
 }
 
 // Messages of checks, one after another.
+#[tactic(auto, unfolding(session_model::specs::Machine::checks_told))]
 fn take_check_messages(
     store: &mut Store,
     messages: Items<FlycheckMsg>,
     out: &mut TurnOut,
 ) -> Result<(), TurnError>
-    ensures { RefinesTotal result (checks_told messages (record { state = store.old; out = out.old })) store.new out.new }
+    ensures { Refines result (checks_told messages (record { state = store.old; out = out.old })) store.new out.new }
 {
     for message in messages.into_vec() {
         take_check_message(store, message, out)?;
@@ -126,15 +127,31 @@ fn take_check_messages(
     Ok(())
 }
 
-/// What checks, a test run or discoveries tell. Test runs and discoveries change nothing yet.
+// Messages of checks. Behind one that ends a check the client is asked to ask anew for what is wrong in files.
+#[tactic(auto, unfolding(session_model::specs::Machine::checks_heard))]
+fn hear_checks(
+    store: &mut Store,
+    messages: Items<FlycheckMsg>,
+    out: &mut TurnOut,
+) -> Result<(), TurnError>
+    ensures { Refines result (checks_heard messages (record { state = store.old; out = out.old })) store.new out.new }
+{
+    let refreshes = end_checks(messages.as_slice())
+        && store.client.settings().diagnostics_refresh();
+    take_check_messages(store, messages, out)?;
+    store.ask_if(refreshes, Outgo::DiagnosticRefresh, out)
+}
+
+/// What checks, a test run or discoveries tell. Discoveries change nothing yet.
 #[tactic(auto, unfolding(session_model::specs::Machine::news_taken))]
 pub fn take_news(store: &mut Store, news: News, out: &mut TurnOut) -> Result<(), TurnError>
-    ensures { RefinesTotal result (news_taken news (record { state = store.old; out = out.old })) store.new out.new }
+    ensures { Refines result (news_taken news (record { state = store.old; out = out.old })) store.new out.new }
 {
     match news {
-        News::Flycheck(messages) => take_check_messages(store, messages, out),
-        news => {
-            drop(news);
+        News::Flycheck(messages) => hear_checks(store, messages, out),
+        News::TestResult(messages) => hear_tests(store, messages, out),
+        News::DiscoverProject(messages) => {
+            drop(messages);
             Ok(())
         }
     }

@@ -1,5 +1,5 @@
 -- What a step of the desk has done, where other messages may stand among those of its row.
-use Rattle.std.proofs.Common.{◌≡◌, ℕ, ◌+◌, List, [], ◌∷◌, ◌++◌, length, refl, sym, ap, ◌∙◌, arith, append_assoc}
+use Rattle.std.proofs.Common.{◌≡◌, ℕ, ◌+◌, List, [], ◌∷◌, ◌++◌, length, refl, sym, ap, ◌∙◌, arith, append-nil, append_assoc}
 use Rattle.std.proofs.lemmas.List.{length-append}
 use Rattle.std.specs.Prelude.{None, Option}
 use Rattle.std.specs.List.{filter_map}
@@ -10,17 +10,19 @@ use Rattle.lsp_frame.specs.declared.message.Request.{Request}
 use Rattle.session_port.specs.Jobs.{Jobs}
 use Rattle.session_port.specs.Record.{spawned}
 use Rattle.session_port.specs.TurnState.{TurnState, written}
-use Rattle.session_port.specs.Written.{responses_in}
+use Rattle.lsp_frame.specs.declared.message.Response.{Response}
+use Rattle.session_port.specs.Written.{Written, responses_in}
 use Rattle.session_port.specs.declared.command.Command.{Command}
 use Rattle.session_port.specs.declared.job.Job.{Job}
 use Rattle.desk.specs.Desk.{Desk}
 use Rattle.desk.specs.Folds.{asked_among, closed_by, pending_after, shutdown_after}
 use Rattle.desk.specs.Reactions.{Reaction, reactions_joined, responses_of, silent}
 use Rattle.desk_laws.specs.Settled.{PassesOver, Settled}
-use Rattle.desk_laws.proofs.Appends.{asked-append, closed_by-append, responses-append}
+use Rattle.desk_laws.proofs.Appends.{asked-append, closed_by-append, responses-append, spawned-append}
 use Rattle.desk_laws.proofs.Settling.{nothing-settles}
 use Rattle.session_model.specs.Sublists.{IsSublist}
-use Rattle.session_laws.proofs.Sublists.{sublist-itself, sublist-joined}
+use Rattle.session_laws.proofs.Passing.{Says}
+use Rattle.session_laws.proofs.Sublists.{sublist-behind, sublist-itself, sublist-joined}
 
 -- as `Settled`, but that messages which answer nobody may stand among those of the row
 pub record SettledAmong (request : Option Request) (w v : TurnState Desk) (done : Reaction) (jobs : Jobs) : Type 0 where
@@ -90,4 +92,43 @@ tells-among n w = let still : Settled None w w silent w.state.jobs = nothing-set
   out = still.out;
   last_job = still.last_job;
   shutdown = still.shutdown;
+}
+
+-- what is said that answers nobody
+pub says-among : (w : TurnState Desk) (out : Written) → Says w.out out
+    → SettledAmong None w (record { state = w.state; out = out }) silent w.state.jobs
+says-among w out s = let still : Settled None w w silent w.state.jobs = nothing-settles w in record {
+  messages = s.tells.messages;
+  writes = s.tells.written;
+  answers = s.tells.answers_none;
+  in_order = tt;
+  spawns = ap spawned s.tells.ordered ∙ spawned-append w.out.commands s.tells.commands
+      ∙ ap (λ (js : List Job). spawned w.out.commands ++ js) s.tells.spawns_none;
+  asked = still.asked;
+  others = s.passes;
+  turns = still.turns;
+  pending = still.pending;
+  out = still.out;
+  last_job = still.last_job;
+  shutdown = still.shutdown;
+}
+
+-- and then the desk does its row
+pub among-behind : (request : Option Request) (w : TurnState Desk) (out : Written) (v : TurnState Desk) (done : Reaction) (jobs : Jobs) → Says w.out out
+    → Settled request (record { state = w.state; out = out }) v done jobs → SettledAmong request w v done jobs
+among-behind request w out v done jobs s settled = record {
+  messages = s.tells.messages ++ done.messages;
+  writes = settled.written ∙ ap (λ (ms : List Message). ms ++ done.messages) s.tells.written
+      ∙ append_assoc w.out.messages s.tells.messages done.messages;
+  answers = responses-append s.tells.messages done.messages ∙ ap (λ (rs : List Response). rs ++ responses_of done) s.tells.answers_none;
+  in_order = sublist-behind done.messages s.tells.messages done.messages (sublist-itself done.messages);
+  spawns = settled.spawns ∙ ap (λ (js : List Job). js ++ done.jobs) (ap spawned s.tells.ordered ∙ spawned-append w.out.commands s.tells.commands
+      ∙ ap (λ (js : List Job). spawned w.out.commands ++ js) s.tells.spawns_none ∙ append-nil _);
+  asked = settled.asked;
+  others = λ number_of passes. settled.others number_of passes ∙ s.passes number_of passes;
+  turns = settled.turns;
+  pending = settled.pending;
+  out = settled.out;
+  last_job = settled.last_job;
+  shutdown = settled.shutdown;
 }

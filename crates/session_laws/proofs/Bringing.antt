@@ -11,7 +11,9 @@ use Rattle.project_model.specs.declared.crates.CrateData.{CrateData}
 use Rattle.project_model.specs.declared.workspace.ProjectWorkspace.{ProjectWorkspace}
 use Rattle.change_effects.specs.Filing.{filed_change, crate_file, crate_files, file_in, is_at_workspace, text_in, workspace_file, workspace_files}
 use Rattle.change_effects.specs.declared.effects.SettingsFile.{SettingsFile}
-use Rattle.session_port.specs.Jobs.{final_of, fits_job, fits_kind}
+use Rattle.activities.specs.Work.{job_told}
+use Rattle.activities.specs.declared.telling.Telling.{Telling}
+use Rattle.session_port.specs.Jobs.{final_of, fits_job, fits_kind, fitting_job}
 use Rattle.session_port.specs.TurnState.{TurnState, and_then, written}
 use Rattle.session_port.specs.declared.event.TaskBody.{TaskBody}
 use Rattle.session_port.specs.declared.event.TaskBody.TheVariants.{Final}
@@ -40,7 +42,8 @@ use Rattle.session_model.specs.Building.{build_kept}
 use Rattle.session_model.specs.Fetching.{fetch_kept}
 use Rattle.session_model.specs.Loading.{crates_loaded, load_kept}
 use Rattle.session_model.specs.Machine.{Turning, at_desk, at_files, at_workspaces, build_taken, files_done, knowing, crates_arrived, desk_in, end_taken}
-use Rattle.session_model.specs.Machine.{work_taken, fetch_taken, files_followed, files_in, files_part, files_processed, files_processed_if, in_state}
+use Rattle.session_model.specs.Machine.{work_taken, fetch_taken, files_followed, files_in, files_part, files_processed, in_state}
+use Rattle.session_model.specs.Machine.{checks_renewed_if, crates_settled_if, tellings_told, work_followed}
 use Rattle.op_board.specs.Acts.{step as after_act}
 use Rattle.op_board.specs.Acts.Act.{ForgetsAll}
 use Rattle.session_model.specs.Machine.{at_board}
@@ -113,20 +116,29 @@ abbrev Brings : Option CrateData → State → State → Type 0
 Brings None s t = t.files ≡ s.files
 Brings (Some crates) s t = BringsFiles s t
 
-arrive-brings : (crates : Option CrateData) (w : TurnState State) → IfOk (and_then (crates_arrived crates w) (files_processed_if (is_some crates)))
+-- what is told behind that leaves the files
+brings-announced : (crates : Option CrateData) (s : State) (v u : TurnState State) → Brings crates s v.state → Announces v u → Brings crates s u.state
+brings-announced None s v u b a = ap (λ (x : State). x.files) a.state ∙ b
+brings-announced (Some crates) s v u b a =
+    subst (BringsFiles s) (sym a.state) (record { roots = b.roots; current = b.current; taken = b.taken; revision = b.revision })
+
+arrive-brings : (crates : Option CrateData) (w : TurnState State) → IfOk (and_then (crates_arrived crates w) (crates_settled_if (is_some crates)))
     (λ v. Brings crates w.state v.state)
-unfolding crates_arrived files_processed_if
+unfolding crates_arrived crates_settled_if
 arrive-brings None w = refl
 arrive-brings (Some crates) w =
     let roots = w.state.sources.roots in
-    IfOk-and_then (at_files (crates_put roots crates) w) files_processed
+    IfOk-and_then (at_files (crates_put roots crates) w) (λ v. and_then (files_processed v) (checks_renewed_if true))
     (λ v. (after_crates roots crates w.state.files ≡ Ok v.state.files) × (v.state.sources.roots ≡ roots)) (λ v. BringsFiles w.state v.state)
     (IfOk-within files_in with_files (crates_put roots crates) w _
     (IfOk-weaker _ (PutsCrates roots crates (record { state = w.state.files; out = w.out })) _
     (crates-put roots crates (record { state = w.state.files; out = w.out })) (λ v p. (p.is, refl))))
-    (λ v (is, same). IfOk-weaker (files_processed v) (AreProcessed v) (λ u. BringsFiles w.state u.state) (processed-is v)
+    (λ v (is, same). IfOk-and_then (files_processed v) (checks_renewed_if true) (λ u. BringsFiles w.state u.state) (λ u. BringsFiles w.state u.state)
+    (IfOk-weaker (files_processed v) (AreProcessed v) (λ u. BringsFiles w.state u.state) (processed-is v)
     (λ u done. brought-files crates w.state u.state v.state.files is
     (subst (λ (rs : List Root). after_processing rs v.state.files ≡ Ok u.state.files) same done)))
+    (λ u b. IfOk-weaker (checks_renewed_if true u) (Announces u) _ (renewed_if-owes Announces announcing true u)
+    (λ x a. brings-announced (Some crates) w.state u x b a)))
 
 -- the crate data that comes with what ends, where the workspaces were these before it: that which waited for a load of macros
 abbrev crates_with : WorkEnd → Workspaces → Option CrateData
@@ -145,7 +157,7 @@ load-brings : (told : LoadEnd) (w : TurnState State) → IfOk (load_taken told w
 unfolding load_taken macros_taken
 load-brings told w =
     let v : TurnState State = at_workspaces (load_kept told) w in
-    IfOk-weaker (and_then (crates_arrived (crates_loaded told w.state.workspaces) v) (files_processed_if (is_some (crates_loaded told w.state.workspaces))))
+    IfOk-weaker (and_then (crates_arrived (crates_loaded told w.state.workspaces) v) (crates_settled_if (is_some (crates_loaded told w.state.workspaces))))
     (λ u. Brings (crates_loaded told w.state.workspaces) v.state u.state) _
     (arrive-brings (crates_loaded told w.state.workspaces) v) (λ u b. from (crates_loaded told w.state.workspaces) u.state b)
   where
@@ -189,17 +201,26 @@ brings-before (Some crates) s t u same b = record {
 abbrev MessageBrings : TaskMsg → State → State → Type 0
 MessageBrings message s t = Brings (crates_by (work_ended message s.desk.jobs) s.workspaces) s t
 
+followed-brings : (end : Option WorkEnd) (told : List Telling) (w : TurnState State)
+    → IfOk (work_followed end told w) (λ v. Brings (crates_by end w.state.workspaces) w.state v.state)
+unfolding work_followed
+followed-brings end told w =
+    let crates : Option CrateData = crates_by end w.state.workspaces in
+    IfOk-and_then (end_taken end w) (tellings_told told) (λ v. Brings crates w.state v.state) (λ v. Brings crates w.state v.state) (end-brings end w)
+    (λ v b. IfOk-weaker (tellings_told told v) (Announces v) _ (told-owe Announces announcing told v) (λ u a. brings-announced crates w.state v u b a))
+
 message-brings : (meaning : Meaning) (message : TaskMsg) (w : TurnState State)
     → IfOk (message_taken meaning message w) (λ v. MessageBrings message w.state v.state)
 unfolding message_taken
 message-brings meaning message w =
     let end = work_ended message w.state.desk.jobs in
-    IfOk-and_then (at_desk (taken_at_desk meaning (scene_of w.state) message) w) (end_taken end) (λ v. Before w.state v.state)
+    let told = job_told message.body (fitting_job message w.state.desk.jobs) in
+    IfOk-and_then (at_desk (taken_at_desk meaning (scene_of w.state) message) w) (work_followed end told) (λ v. Before w.state v.state)
     (λ v. MessageBrings message w.state v.state)
     (IfOk-within desk_in with_desk (taken_at_desk meaning (scene_of w.state) message) w _
     (ok-from (taken_at_desk meaning (scene_of w.state) message (record { state = w.state.desk; out = w.out })) _
     (λ v is. record { files = refl; sources = refl; workspaces = refl })))
-    (λ v before. IfOk-weaker (end_taken end v) (λ u. Brings (crates_by end v.state.workspaces) v.state u.state) _ (end-brings end v)
+    (λ v before. IfOk-weaker (work_followed end told v) (λ u. Brings (crates_by end v.state.workspaces) v.state u.state) _ (followed-brings end told v)
     (λ u b. brings-before (crates_by end w.state.workspaces) w.state v.state u.state before
     (subst (λ (ws : Workspaces). Brings (crates_by end ws) v.state u.state) before.workspaces b)))
 

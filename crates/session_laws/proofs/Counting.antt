@@ -231,7 +231,7 @@ gives-requests s client n le =
     (still s.workspaces.version 0)
     (still s.workspaces.loader_version 0)
 
-asked-cases : (message : Outgo) (handler : ReqHandler) (s : State) (w : TurnState Client) (b : Bool) → w.state ≡ s.client
+pub asked-cases : (message : Outgo) (handler : ReqHandler) (s : State) (w : TurnState Client) (b : Bool) → w.state ≡ s.client
     → (w.state.asked.given == number_limit) ≡ b
     → Counts (λ (v : TurnState Client). with_client v.state s) (requests 1) (given s)
     (if b then Err counters.Outgoing else Ok (written (request_at w.state.asked.given message) (record w { state = after_asking handler w.state })))

@@ -17,7 +17,9 @@ use Rattle.lsp_frame.specs.declared.message.Response.{Response}
 use Rattle.project_model.specs.declared.crates.CrateData.{CrateData}
 use Rattle.layered_settings.specs.declared.change.ConfigChange.{ConfigChange}
 use Rattle.ra_config.specs.declared.capabilities.Capabilities.{Capabilities}
-use Rattle.session_port.specs.Jobs.{Jobs, jobs_after}
+use Rattle.session_port.specs.Jobs.{Jobs, fitting_job, jobs_after}
+use Rattle.session_port.specs.Written.{Written}
+use Rattle.session_port.specs.declared.news.TestMsg.{TestMsg}
 use Rattle.session_port.specs.TurnState.{TurnState, and_then, logged, ordered, lifted, written}
 use Rattle.session_port.specs.declared.command.DeferredTask.{DeferredTask}
 use Rattle.session_port.specs.declared.command.DeferredTask.TheVariants.{CheckIfIndexed, CheckProcMacroSources}
@@ -59,9 +61,13 @@ use Rattle.desk.specs.WorkEnds.{work_ended}
 use Rattle.desk.specs.declared.state.ends.WorkEnd.{WorkEnd}
 use Rattle.desk.specs.declared.state.ends.WorkEnd.TheVariants.{Fetched, Built, Checked, Loaded, Diagnosed, Tested}
 use Rattle.session_laws.proofs.WorkEnds.{work_kept, work-versions}
-use Rattle.session_laws.proofs.OwnJobs.{Asks, batch_due, due-same, quiet-is, quiet-split, refreshes-ask}
+use Rattle.session_laws.proofs.Announcing.{Announces, announcing, checks-done-owe, refreshes-owe, tests-run-owe}
+use Rattle.session_laws.proofs.OwnJobs.{batch_due, due-same, quiet-is, quiet-split}
+use Rattle.session_laws.proofs.TellingCounts.{aborted-does, all-cancelled-does, cancelled-does, checked_if-does, checks-done-does, graph-few, job-few}
+use Rattle.session_laws.proofs.TellingCounts.{progressed-does, renewed_if-does, requests_among, restarted_if-does, scans-few, test-does, tests-run-does}
+use Rattle.session_laws.proofs.TellingCounts.{told-at-most}
 use Rattle.session_laws.proofs.OwnJobs.{before-is, fetch_begun, fetch_part-leaves, load_behind, load-due-same, parts_from_fetch, step-split}
-use Rattle.session_model.specs.Diagnosing.{batch_counted, batch_kinds, deleted_cleared, is_batch_due, lists_cleared, lists_given, tests_told}
+use Rattle.session_model.specs.Diagnosing.{batch_counted, batch_kinds, deleted_cleared, is_batch_due, lists_cleared, lists_given, outdated_act, tests_told}
 use Rattle.session_model.specs.OwnJobs.{awaited_job, batch_jobs, batch_jobs_due, batch_jobs_if, before_quiet, parts_before_quiet}
 use Rattle.session_model.specs.OwnJobs.{OwnJob, before_fetch, build_job, checks_among_tasks, checks_back, fetch_job, fetch_jobs, jobs_due, load_job, own_job}
 use Rattle.session_model.specs.OwnJobs.{parts_before_fetch, run_jobs, run_jobs_behind}
@@ -85,7 +91,7 @@ use Rattle.session_model.specs.Checking.{check_kept, check_kind}
 use Rattle.session_model.specs.Crates.{builds_crates, crate_data, is_unknown}
 use Rattle.session_model.specs.Fetching.{fetch_kept, folders_told_if, settings_told, with_fetches}
 use Rattle.session_model.specs.Hearing.{heard_of, told_by}
-use Rattle.session_model.specs.Inputs.{batch_of, cancelled_by, file_count, files_among, files_noticed}
+use Rattle.session_model.specs.Inputs.{batch_of, cancelled_by, file_count, files_among, files_noticed, message_count, news_count}
 use Rattle.session_model.specs.Loading.{MacroPaths, crates_loaded, load_due, load_kept, with_due_load}
 use Rattle.session_model.specs.Machine.{all_resumed, answer_taken, request_taken, asked_for_settings, asked_if, at_client, at_desk, at_files, at_workspaces}
 use Rattle.session_model.specs.Machine.{batched, begin_part, begun_fetches, build_handed_over, build_part, build_started, build_taken, document_changed_at}
@@ -93,7 +99,17 @@ use Rattle.session_model.specs.Machine.{client_in}
 use Rattle.session_model.specs.Machine.{turn_closed, document_closed_at, closing_part, turn_counted, crates_arrived, crates_built, desk_in, effects_done}
 use Rattle.session_model.specs.Machine.{end_taken}
 use Rattle.session_model.specs.Machine.{work_taken, fetch_waits, settings_filed, sources_deferred, event_part, fetch_handed_over, fetch_part, fetch_started}
-use Rattle.session_model.specs.Machine.{fetch_taken, files_changed, files_done, files_followed, files_in, files_part, files_processed, files_processed_if}
+use Rattle.session_model.specs.Machine.{fetch_taken, files_changed, files_done, files_followed, files_in, files_part, files_processed}
+use Rattle.session_model.specs.Machine.{checks_done, checks_heard, checks_renewed_if, checks_restarted_if, checks_run, crates_come, crates_settled_if}
+use Rattle.session_model.specs.Machine.{file_checked_at, file_checked_if, knowing_crates, loader_brought, request_answered, tellings_told}
+use Rattle.session_model.specs.Machine.{tests_announced, tests_heard, tests_run, work_followed}
+use Rattle.session_model.specs.Restarting.{checks_all_on_save, checks_on_save, checks_workspaces, has_other_checks, restart_checks}
+use Rattle.session_model.specs.Testing.{run_asked_by}
+use Rattle.activities.specs.Scanning.{scans_told}
+use Rattle.activities.specs.TestRun.{test_told}
+use Rattle.activities.specs.Work.{graph_told, job_told}
+use Rattle.activities.specs.declared.activities.Activities.{Activities}
+use Rattle.activities.specs.declared.telling.Telling.{Telling}
 use Rattle.session_model.specs.Machine.{folders_taken, switch_followed, happened, in_state, desk_kept, knowing, load_handed_over, load_started, load_taken}
 use Rattle.session_model.specs.Machine.{loader_set, macros_taken, noticed, document_opened_at, quiet_done, quiet_part, received, client_refreshed}
 use Rattle.session_model.specs.Machine.{all_asked, all_published, at_board, batch_asked, batch_done, came_or_went, check_told, checks_told, files_published}
@@ -127,7 +143,7 @@ use Rattle.session_laws.proofs.Counting.{AtMost, Counts, ahead, at-most, become-
 use Rattle.session_laws.proofs.Counting.{counts-within, crates-count, editing-counts, files, files_ahead, given, given-workspaces, gives-desk, gives-on}
 use Rattle.session_laws.proofs.Counting.{gives-same, gives-versions, held, job-counts, jobs, many-more, messages-count, next-counts, none, none-more}
 use Rattle.session_laws.proofs.Counting.{opening-counts, processing-counts, request-counts, requests, revisions, state_ahead, state_at, turns}
-use Rattle.session_laws.proofs.Events.{files-same, notification_input, noted-same}
+use Rattle.session_laws.proofs.Events.{announced_state, files-same, notification_input, noted-same}
 use Rattle.session_laws.proofs.Following.{deferred-same, further-same}
 use Rattle.session_laws.proofs.Processing.{at}
 use Rattle.session_laws.proofs.Rows.{counted-is}
@@ -204,7 +220,7 @@ shown-does false (Some text) w = does-same (requests 1) w (written (notification
 status-does : (w : TurnState State) → Does (requests 1) w (status_done w)
 unfolding status_done status_kept status_changed status_told written
 status-does w =
-    let now = status_now w.state.client w.state.files w.state.workspaces in
+    let now = status_now w.state.client w.state.files w.state.workspaces w.state.activities.checks in
     then-same (requests 1) w (status_changed now w) (λ v. record v { state = with_status now v.state }) (λ v. refl)
     (counts-if state_ahead (requests 1) (held w.state) _ (Ok w) (status_told now w) (does-same (requests 1) w w refl)
     (counts-if state_ahead (requests 1) (held w.state) (takes_status w.state.client.settings) (Ok (written (notification_of (status_message now)) w)) _
@@ -270,10 +286,10 @@ processed-does w =
     (world-do none w (processed w.state.sources.roots)
     (become-counts (files_ahead w.state) none (held w.state) _ _ (processing-counts w.state.sources.roots w.state)))
 
-processed_if-does : (b : Bool) (w : TurnState State) → Does none w (files_processed_if b w)
-unfolding files_processed_if
-processed_if-does true w = processed-does w
-processed_if-does false w = does-same none w w refl
+settled_if-does : (b : Bool) (w : TurnState State) → Does none w (crates_settled_if b w)
+unfolding crates_settled_if
+settled_if-does true w = does-then none none w (files_processed w) (checks_renewed_if true) (processed-does w) (renewed_if-does true)
+settled_if-does false w = does-same none w w refl
 
 done-does : (w : TurnState State) → Does none w (files_done w)
 unfolding files_done
@@ -281,20 +297,28 @@ done-does w = counts-if state_ahead none (held w.state) w.state.files.loading (O
 
 -- ---- a switch
 
-followed-does : (next : Follows) (w : TurnState State) → Does (requests 1) w (switch_followed next w)
-unfolding switch_followed roots_renewed
-followed-does follows.Nothing w = does-same (requests 1) w w refl
-followed-does follows.CrateData w = does-same (requests 1) w w refl
-followed-does (follows.Wait msrv) w = does-same (requests 1) w (warned msrv w) (same-state w.state (warned msrv w).state (warned-same msrv w))
+graph-does : (w : TurnState State) → Does (requests 1) w (tellings_told graph_told w)
+graph-does w = told-at-most 1 graph_told w graph-few
+
+roots-same : (version : ℕ) (w : TurnState State) → held (roots_renewed (loader_set version w)).state ≡ held w.state
+unfolding roots_renewed
+roots-same version w = same-state w.state (loader_set version w).state (loader-same version w)
+
+followed-does : (next : Follows) (w : TurnState State) → Does (requests 2) w (switch_followed next w)
+unfolding switch_followed
+followed-does follows.Nothing w = does-same (requests 2) w w refl
+followed-does follows.CrateData w = told-at-most 2 graph_told w (let few = graph-few in omega (arith, few))
+followed-does (follows.Wait msrv) w = does-same (requests 2) w (warned msrv w) (same-state w.state (warned msrv w).state (warned-same msrv w))
 followed-does (follows.GoOn msrv version initial) w =
     let v : TurnState State = warned msrv w in
-    then-same (requests 1) w (watchers_registered v) (λ u. roots_renewed (loader_set version u))
-    (λ u. same-state u.state (loader_set version u).state (loader-same version u))
-    (from-same (requests 1) w v (watchers_registered v) (same-state w.state v.state (warned-same msrv w)) (watched-does v))
+    let next : TurnState State → Result (TurnState State) Counter = λ u. tellings_told graph_told (roots_renewed (loader_set version u)) in
+    from-same (requests 2) w v (and_then (watchers_registered v) next) (same-state w.state v.state (warned-same msrv w))
+    (does-then (requests 1) (requests 1) v (watchers_registered v) next (watched-does v)
+    (λ u. from-same (requests 1) u (roots_renewed (loader_set version u)) (next u) (roots-same version u) (graph-does (roots_renewed (loader_set version u)))))
 
 -- it may ask the client, build crate data, and give a version each of the workspaces and of the loader's settings
 abbrev for_switch : Numbers
-for_switch = record none { requests = 1; revisions = 1; versions = 1; settings = 1 }
+for_switch = record none { requests = 2; revisions = 1; versions = 1; settings = 1 }
 
 switch-cases : (made : Result (Follows × Workspaces) Counter) (w : TurnState State) → Outcome w.state.workspaces made
     → Does for_switch w (switch_taken made w)
@@ -302,10 +326,10 @@ unfolding switch_taken
 switch-cases (Err counter) w refused = subst (AreTooMany (held w.state) for_switch) (sym refused.0) refused.1
 switch-cases (Ok made) w makes =
     let now : TurnState State = at_workspaces (λ before. made.1) w in
-    counts-behind state_ahead (record none { versions = 1; settings = 1 }) (record none { requests = 1; revisions = 1 }) (held w.state) (held now.state) _
+    counts-behind state_ahead (record none { versions = 1; settings = 1 }) (record none { requests = 2; revisions = 1 }) (held w.state) (held now.state) _
     (gives-versions (ahead w.state) made.1 makes.version
     (next-most w.state.workspaces.loader_version made.1.loader_version made.0 makes.next))
-    (does-then (requests 1) (revisions 1) now (switch_followed made.0 now) (crates_built (builds_crates w.state.client.settings made.0))
+    (does-then (requests 2) (revisions 1) now (switch_followed made.0 now) (crates_built (builds_crates w.state.client.settings made.0))
     (followed-does made.0 now)
     (built-does (builds_crates w.state.client.settings made.0)))
 
@@ -396,12 +420,14 @@ quiet-does : (input : Input) (facts : FactsBefore) (w : TurnState State)
 unfolding quiet_done
 quiet-does input facts w =
     let came : Bool = came_or_went input in
-    counts-then state_ahead state_ahead (requests 4) (jobs (length (batch_due came facts w.state))) (held w.state) (refreshes_done facts w)
-    (batch_done came facts) (refreshes-do facts w)
-    (λ v is. subst (λ (own : List OwnJob). Does (jobs (length own)) v (batch_done came facts v))
-    (IfOk-at_ok (λ v. batch_due came facts v.state ≡ batch_due came facts w.state) is
-    (IfOk-weaker (refreshes_done facts w) (Asks w) _ (refreshes-ask facts w) (λ v asks. due-same came facts w v asks)))
-    (batch-done-does came facts v))
+    let few : ℕ = length (batch_due came facts w.state) in
+    counts-then state_ahead state_ahead none (for_quiet few) (held w.state) (checks_done facts w)
+    (λ v. and_then (refreshes_done facts v) (batch_done came facts)) (checks-done-does facts w)
+    (λ v is. counts-then state_ahead state_ahead (requests 4) (jobs few) (held v.state) (refreshes_done facts v) (batch_done came facts) (refreshes-do facts v)
+    (λ u next. let a : Announces w u = announcing.on w v u
+    (IfOk-at_ok (Announces w) is (checks-done-owe Announces announcing facts w))
+    (IfOk-at_ok (Announces v) next (refreshes-owe Announces announcing facts v)) in
+    subst (λ (own : List OwnJob). Does (jobs (length own)) u (batch_done came facts u)) (due-same came facts w u a) (batch-done-does came facts u)))
 
 -- what is published, and what checks tell, is not counted
 published-same : (path : Option (List ℕ)) (file : FileId) (w : TurnState State) → held (published_at path file w).state ≡ held w.state
@@ -430,22 +456,43 @@ found-same id generation of_package path diagnostic fix None w = refl
 found-same id generation of_package path diagnostic fix (Some (file, Yes)) w = refl
 found-same id generation of_package path diagnostic fix (Some (file, No)) w = refl
 
-check-same : (message : FlycheckMsg) (w : TurnState State) → held (check_told message w).state ≡ held w.state
+-- what checks and a run of tests tell takes a request for each message, and one behind a check that has ended
+check-does : (message : FlycheckMsg) (w : TurnState State) → Does (requests 1) w (check_told message w)
 unfolding check_told
-check-same (checks.AddDiagnostic id generation of_package path diagnostic fix) w =
-    found-same id generation of_package path diagnostic fix (map.get w.state.files.ids path) w
-check-same (checks.ClearDiagnostics id of_package older_than) w = refl
-check-same (checks.Progress id progress) w = refl
+check-does (checks.AddDiagnostic id generation of_package path diagnostic fix) w =
+    does-same (requests 1) w (found_added id generation of_package path diagnostic fix (map.get w.state.files.ids path) w)
+    (found-same id generation of_package path diagnostic fix (map.get w.state.files.ids path) w)
+check-does (checks.ClearDiagnostics id of_package older_than) w =
+    does-same (requests 1) w (at_board (after_act (outdated_act id of_package older_than)) w) refl
+check-does (checks.Progress id progress) w = progressed-does w.state.client.settings id progress w
 
-checks-same-held : (messages : List FlycheckMsg) (w : TurnState State) → held (checks_told messages w).state ≡ held w.state
-checks-same-held [] w = refl
-checks-same-held (message ∷ messages) w = checks-same-held messages (check_told message w) ∙ check-same message w
+checks-do : (messages : List FlycheckMsg) (w : TurnState State) → Does (requests (length messages)) w (checks_told messages w)
+unfolding checks_told
+checks-do [] w = does-same (requests 0) w w refl
+checks-do (message ∷ later) w =
+    counts-more state_ahead (requests (1 + length later)) (requests (length (message ∷ later))) (held w.state) (checks_told (message ∷ later) w)
+    (at-most _ _ (omega arith) (omega arith) (omega arith) (omega arith) (omega arith) (omega arith) (omega arith))
+    (does-then (requests 1) (requests (length later)) w (check_told message w) (checks_told later) (check-does message w) (checks-do later))
 
-news-same : (news : NewsData) (w : TurnState State) → held (news_taken news w).state ≡ held w.state
-unfolding news_taken
-news-same (told_news.Flycheck messages) w = checks-same-held messages w
-news-same (told_news.TestResult messages) w = refl
-news-same (told_news.DiscoverProject messages) w = refl
+tests-do : (messages : List TestMsg) (w : TurnState State) → Does none w (tests_heard messages w)
+unfolding tests_heard
+tests-do [] w = does-same none w w refl
+tests-do (message ∷ later) w =
+    does-then none none w (tests_announced (test_told message w.state.activities.tests) w) (tests_heard later) (test-does message w) (tests-do later)
+
+none-at-most : (needs : Numbers) → AtMost none needs
+none-at-most needs = at-most _ _ (omega arith) (omega arith) (omega arith) (omega arith) (omega arith) (omega arith) (omega arith)
+
+-- a step that gives none gives no more than these
+none-does : (needs : Numbers) (w : TurnState State) (r : Result (TurnState State) Counter) → Does none w r → Does needs w r
+none-does needs w r h = counts-more state_ahead none needs (held w.state) r (none-at-most needs) h
+
+news-does : (news : NewsData) (w : TurnState State) → Does (requests (news_count news + 1)) w (news_taken news w)
+unfolding news_taken checks_heard
+news-does (told_news.Flycheck messages) w =
+    does-then (requests (length messages)) (requests 1) w (checks_told messages w) _ (checks-do messages w) (λ v. asked_if-does _ DiagnosticRefresh v)
+news-does (told_news.TestResult messages) w = none-does (requests 1) w (tests_heard messages w) (tests-do messages w)
+news-does (told_news.DiscoverProject messages) w = does-same (requests 1) w w refl
 
 -- ---- jobs for requests
 
@@ -469,11 +516,11 @@ desk-counts needs s request w done out (Ok v) turns last_job few settles errs =
 desk-counts needs s request w done out (Err counter) turns last_job few settles errs =
     subst (AreTooMany (given s) needs) (sym errs.0) (many-jobs s.desk.last_job w.state.last_job (length done.jobs) needs.jobs last_job few errs.1)
 
-request-does : (meaning : Meaning) (s : State) (r : Request) (needs : Numbers)
+answered-request-does : (meaning : Meaning) (s : State) (r : Request) (needs : Numbers) (asked : Outgoing ReqHandler) (activities : Activities) (out : Written)
     → length (turn_row meaning (Next (Lsp (lsp.Request r))) (place_of_state s)).jobs ≤ needs.jobs
-    → Does needs (turn_begun s) (request_taken meaning r (turn_begun s))
-request-does meaning s r needs few =
-    let w : TurnState State = turn_begun s in
+    → (let w : TurnState State = record { state = announced_state s asked activities; out = out } in Does needs w (request_answered meaning r w))
+answered-request-does meaning s r needs asked activities out few =
+    let w : TurnState State = record { state = announced_state s asked activities; out = out } in
     let done = request_row meaning (scene_of s) w.state.desk (s.desk.turns + 1) r in
     let same = request-turns meaning (scene_of s) s.desk (s.desk.turns + 1) (s.desk.turns + 1) r in
     then-same needs w (at_desk (requested meaning (scene_of s) r) w) (at_workspaces (request_told r w.state.desk))
@@ -482,6 +529,18 @@ request-does meaning s r needs few =
     (desk-counts needs (ahead w.state) (Some r) (at w) done s.desk.jobs (requested meaning (scene_of s) r (at w)) refl refl
     (subst (λ (d : Reaction). length d.jobs ≤ needs.jobs) (sym same) few) (request-settles meaning (scene_of s) r (at w))
     (request-errs meaning (scene_of s) r (at w))))
+
+-- behind a run of tests that it asks for
+request-does : (meaning : Meaning) (s : State) (r : Request) (needs : Numbers)
+    → length (turn_row meaning (Next (Lsp (lsp.Request r))) (place_of_state s)).jobs ≤ needs.jobs
+    → Does needs (turn_begun s) (request_taken meaning r (turn_begun s))
+request-does meaning s r needs few =
+    let w : TurnState State = turn_begun s in
+    let run = run_asked_by r w.state.desk in
+    counts-then state_ahead state_ahead none needs (held w.state) (tests_run run w) (request_answered meaning r) (tests-run-does run w)
+    (λ v is. let a : Announces w v = IfOk-at_ok (Announces w) is (tests-run-owe Announces announcing run w) in
+    subst (λ (t : State). Does needs (record { state = t; out = v.out }) (request_answered meaning r (record { state = t; out = v.out }))) (sym a.state)
+    (answered-request-does meaning s r needs v.state.client.asked v.state.activities v.out few))
 
 -- ---- batches
 
@@ -505,18 +564,25 @@ work-does (Tested files tests) w =
 work-does (Loaded told) w =
     let l : TurnState State = at_workspaces (load_kept told) w in
     let crates : Option CrateData = crates_loaded told w.state.workspaces in
-    from-same (revisions 1) w l (and_then (crates_arrived crates l) (files_processed_if (is_some crates))) (kept-same (Loaded told) w)
-    (does-then (revisions 1) none l (crates_arrived crates l) (files_processed_if (is_some crates)) (arrived-does crates l)
-    (processed_if-does (is_some crates)))
+    from-same (revisions 1) w l (and_then (crates_arrived crates l) (crates_settled_if (is_some crates))) (kept-same (Loaded told) w)
+    (does-then (revisions 1) none l (crates_arrived crates l) (crates_settled_if (is_some crates)) (arrived-does crates l)
+    (settled_if-does (is_some crates)))
 
 end-does : (end : Option WorkEnd) (w : TurnState State) → Does (revisions 1) w (end_taken end w)
 unfolding end_taken
 end-does None w = does-same (revisions 1) w w refl
 end-does (Some end) w = work-does end w
 
--- so many jobs and revisions
+-- so many jobs, and a revision and a request for each of so many messages
 abbrev for_messages : ℕ → ℕ → Numbers
-for_messages jobs revisions = record none { jobs = jobs; revisions = revisions }
+for_messages jobs count = record none { jobs = jobs; requests = count; revisions = count }
+
+-- what is told of the work that ends begins one work at most
+followed-work-does : (end : Option WorkEnd) (told : List Telling) (w : TurnState State) → requests_among told ≤ 1
+    → Does (both (revisions 1) (requests 1)) w (work_followed end told w)
+unfolding work_followed
+followed-work-does end told w few =
+    does-then (revisions 1) (requests 1) w (end_taken end w) (tellings_told told) (end-does end w) (λ v. told-at-most 1 told v few)
 
 plus-none : (n : ℕ) → n + 0 ≡ n
 plus-none n = omega arith
@@ -532,12 +598,12 @@ taken-does meaning turns message w =
     let same : length plain.jobs ≡ length done.jobs = ap (λ (d : Reaction). length d.jobs) (sym (message-turns meaning scene w.state.desk turns message)) in
     let out = w.state.desk.jobs in
     subst (λ n. Does (for_messages n 1) w (message_taken meaning message w)) (plus-none (length done.jobs))
-    (does-then (jobs (length done.jobs)) (revisions 1) w (at_desk (taken_at_desk meaning scene message) w) _
+    (does-then (jobs (length done.jobs)) (both (revisions 1) (requests 1)) w (at_desk (taken_at_desk meaning scene message) w) _
     (counts-within state_ahead (jobs (length done.jobs)) (held w.state) desk_in with_desk (taken_at_desk meaning scene message) w
     (desk-counts (jobs (length done.jobs)) (ahead w.state) None (at w) plain (jobs_after message out) (taken_at_desk meaning scene message (at w)) refl refl
     (omega (arith, same))
     (message-settles meaning scene message (at w)) (message-errs meaning scene message (at w))))
-    (end-does (work_ended message out)))
+    (λ v. followed-work-does (work_ended message out) (job_told message.body (fitting_job message out)) v (job-few message.body (fitting_job message out))))
 
 batch-does : (meaning : Meaning) (turns : ℕ) (s : State) (batch : List TaskMsg) (w : TurnState State) → Stays s w.state
     → Does (for_messages (length (batch_row meaning batch w (place_now s turns w)).jobs) (length batch)) w (batched meaning batch w)
@@ -565,7 +631,7 @@ batch-does meaning turns s (m ∷ ms) w h =
 abbrev pub for_event : Meaning → State → Input → Numbers
 for_event meaning s input = record none {
   jobs = length (turn_row meaning input (place_of_state s)).jobs + length (checks_back s input);
-  requests = 1;
+  requests = message_count input + 1;
   revisions = length (batch_of input);
   files = file_count input;
 }
@@ -645,16 +711,34 @@ event-holds needs w r h =
     (at-most _ _ (omega arith) (omega arith) (omega arith) (omega arith) (omega arith) (omega arith) (omega arith))
     (counts-behind state_ahead (revisions 1) needs (given w.state) (held w.state) r (more-held w.state) h)
 
-saved-does : (needs : Numbers) (s : State) (uri : List ℕ) (o : Result (List ℕ) UrlFault) → Does needs (turn_begun s) (Ok (saved_at o uri (turn_begun s)))
+saved-file-same : (path : List ℕ) (w : TurnState State) → held (saved_file path w).state ≡ held w.state
+saved-file-same path w =
+    let noted : TurnState State = save_noted (is_unknown w.state.files.ids path) path w in
+    held-workspaces noted.state (path_saved w.state.client.settings w.state.files path noted.state.workspaces)
+    (save-runs 0 w.state.client.settings w.state.files path noted.state.workspaces).versions
+    ∙ same-state w.state noted.state (noted-same (is_unknown w.state.files.ids path) path w)
+
+saved-does : (needs : Numbers) (s : State) (uri : List ℕ) (o : Result (List ℕ) UrlFault) → Does needs (turn_begun s) (saved_at o uri (turn_begun s))
 unfolding saved_at logged ordered
-saved-does needs s uri (Err fault) = does-same needs (turn_begun s) (logged BadPath uri (turn_begun s)) refl
+saved-does needs s uri (Err fault) =
+    let v : TurnState State = logged BadPath uri (turn_begun s) in
+    let wanted : Bool = checks_all_on_save s.client.settings in
+    from-same needs (turn_begun s) v (checks_restarted_if wanted v) refl (none-does needs v (checks_restarted_if wanted v) (restarted_if-does wanted v))
 saved-does needs s uri (Ok path) =
-    let w : TurnState State = turn_begun s in
-    let noted : TurnState State = save_noted (is_unknown s.files.ids path) path w in
-    does-same needs w (saved_file path w)
-    (held-workspaces noted.state (path_saved s.client.settings s.files path noted.state.workspaces)
-    (save-runs 0 s.client.settings s.files path noted.state.workspaces).versions
-    ∙ same-state w.state noted.state (noted-same (is_unknown s.files.ids path) path w))
+    let v : TurnState State = saved_file path (turn_begun s) in
+    let wanted : Bool = checks_on_save s.client.settings s.files.host.world.roots path in
+    from-same needs (turn_begun s) v (file_checked_if wanted path v) (saved-file-same path (turn_begun s))
+    (none-does needs v (file_checked_if wanted path v) (checked_if-does wanted path v))
+
+checked-at-does : (uri : List ℕ) (o : Result (List ℕ) UrlFault) (w : TurnState State) → Does none w (file_checked_at uri o w)
+unfolding file_checked_at logged ordered
+checked-at-does uri (Err fault) w = does-same none w (logged BadPath uri w) refl
+checked-at-does uri (Ok path) w = checked_if-does true path w
+
+checks-run-does : (uri : Option (List ℕ)) (w : TurnState State) → Does none w (checks_run uri w)
+unfolding checks_run
+checks-run-does None w = restarted_if-does (checks_workspaces w.state.client.settings) w
+checks-run-does (Some uri) w = checked-at-does uri (path_of uri) w
 
 -- a step of what is agreed with the client that gives no number
 client-does : (needs : Numbers) (w : TurnState State) (step : TurnState Client → TurnState Client)
@@ -683,12 +767,16 @@ after-same (Some id) request_taken = without-same (number_of id) request_taken
 
 answer-does : (needs : Numbers) (s : State) (r : Response) → Does needs (turn_begun s) (answer_taken r (turn_begun s))
 answer-does needs s r =
-    let client : TurnState Client = record { state = s.client; out = (turn_begun s).out } in
-    then-same needs (turn_begun s) (at_client (λ c. Ok (answered r c)) (turn_begun s))
-    (λ v. at_workspaces (settings_told s.client.settings v.state.client.settings) v)
-    (λ v. held-workspaces v.state (settings_told s.client.settings v.state.client.settings v.state.workspaces)
+    let w : TurnState State = turn_begun s in
+    let client : TurnState Client = record { state = s.client; out = w.out } in
+    let step : TurnState State → TurnState State = λ v. at_workspaces (settings_told s.client.settings v.state.client.settings) v in
+    let next : TurnState State → Result (TurnState State) Counter = λ v. checks_renewed_if (has_other_checks s.client.settings v.state.client.settings) (step v) in
+    counts-then state_ahead state_ahead none needs (held w.state) (at_client (λ c. Ok (answered r c)) w) next
+    (client-does none w (answered r) (ap (λ (c : Client). c.asked.given) (answered-does r client).is ∙ after-same r.id s.client.asked))
+    (λ v is. from-same needs v (step v) (next v)
+    (held-workspaces v.state (settings_told s.client.settings v.state.client.settings v.state.workspaces)
     (settings-runs 0 s.client.settings v.state.client.settings v.state.workspaces).versions)
-    (client-does needs (turn_begun s) (answered r) (ap (λ (c : Client). c.asked.given) (answered-does r client).is ∙ after-same r.id s.client.asked))
+    (none-does needs (step v) (next v) (renewed_if-does (has_other_checks s.client.settings v.state.client.settings) (step v))))
 
 cancel-does : (meaning : Meaning) (s : State) (n : Notification) (id : RequestId) → told_by (heard_of n) ≡ Some (notices.CancelRequest id)
     → Does (for_event meaning s (notification_input n)) (turn_begun s) (at_desk (λ d. Ok (cancelled id d)) (turn_begun s))
@@ -723,11 +811,19 @@ holds-same meaning s n v same =
     let needs = for_event meaning s (notification_input n) in
     event-holds needs (turn_begun s) (Ok v) (does-same needs (turn_begun s) v same)
 
+-- where it gives nothing
+told-none-does : (meaning : Meaning) (s : State) (n : Notification) (notice : Notice) → Does none (turn_begun s) (told notice (turn_begun s))
+    → EventDoes (for_event meaning s (notification_input n)) (turn_begun s) (told notice (turn_begun s))
+told-none-does meaning s n notice h =
+    let needs = for_event meaning s (notification_input n) in
+    told-holds meaning s n notice (none-does needs (turn_begun s) (told notice (turn_begun s)) h)
+
 told-does : (meaning : Meaning) (s : State) (n : Notification) (notice : Notice) → told_by (heard_of n) ≡ Some notice
     → EventDoes (for_event meaning s (notification_input n)) (turn_begun s) (told notice (turn_begun s))
 unfolding told
 told-does meaning s n (notices.CancelRequest id) heard = told-holds meaning s n (notices.CancelRequest id) (cancel-does meaning s n id heard)
-told-does meaning s n (notices.CancelProgress token) heard = holds-same meaning s n (turn_begun s) refl
+told-does meaning s n (notices.CancelProgress token) heard =
+    told-none-does meaning s n (notices.CancelProgress token) (cancelled-does token s.activities.checks (turn_begun s))
 told-does meaning s n (notices.DidOpen document) heard =
     told-gives meaning s n (notices.DidOpen document) (opened-does meaning s n document (path_of document.uri) (ap files_noticed heard))
 told-does meaning s n (notices.DidChange change) heard =
@@ -746,11 +842,16 @@ told-does meaning s n (notices.DidChangeWorkspaceFolders added removed) heard =
     (folders-does (for_event meaning s (notification_input n)) s added removed)
 told-does meaning s n (notices.DidChangeWatchedFiles changes) heard =
     let v : TurnState State = files_changed map.empty changes (turn_begun s) in
-    holds-same meaning s n v (same-state (turn_begun s).state v.state (files-same map.empty changes (turn_begun s)))
-told-does meaning s n notices.CancelFlycheck heard = holds-same meaning s n (turn_begun s) refl
+    let wanted : Bool = restart_checks s.client.settings changes in
+    told-none-does meaning s n (notices.DidChangeWatchedFiles changes)
+    (from-same none (turn_begun s) v (checks_restarted_if wanted v) (same-state (turn_begun s).state v.state (files-same map.empty changes (turn_begun s)))
+    (restarted_if-does wanted v))
+told-does meaning s n notices.CancelFlycheck heard =
+    told-none-does meaning s n notices.CancelFlycheck (all-cancelled-does s.activities.checks (turn_begun s))
 told-does meaning s n notices.ClearFlycheck heard = holds-same meaning s n (at_board (after_act ForgetsAll) (turn_begun s)) refl
-told-does meaning s n (notices.RunFlycheck uri) heard = holds-same meaning s n (turn_begun s) refl
-told-does meaning s n notices.AbortRunTest heard = holds-same meaning s n (turn_begun s) refl
+told-does meaning s n (notices.RunFlycheck uri) heard = told-none-does meaning s n (notices.RunFlycheck uri) (checks-run-does uri (turn_begun s))
+told-does meaning s n notices.AbortRunTest heard =
+    told-none-does meaning s n notices.AbortRunTest (aborted-does s.activities.tests (turn_begun s))
 
 heard-does : (meaning : Meaning) (s : State) (n : Notification) (heard : Heard) → heard_of n ≡ heard
     → EventDoes (for_event meaning s (notification_input n)) (turn_begun s) (noticed heard n.method (turn_begun s))
@@ -789,12 +890,20 @@ event-does meaning s (Task batch) =
 event-does meaning s (Vfs messages) =
     let w : TurnState State = turn_begun s in
     let input : Input = Next (Vfs messages) in
-    event-gives (for_event meaning s (Next (Vfs messages))) (turn_begun s) (happened meaning (Vfs messages) (turn_begun s))
-    (gives-then (for_event meaning s input) w (at_files (loaded messages) w) (λ v. at_workspaces (renewed_if (bring_files messages) v.state.desk.turns) v)
+    let told : List Telling = scans_told s.client.settings.root_path messages in
+    let count : ℕ = files_among messages in
+    counts-more state_ahead (both (both (files count) (revisions 1)) (requests (length messages))) (both (for_event meaning s input) (revisions 1))
+    (given w.state) (happened meaning (Vfs messages) w)
+    (at-most _ _ (omega arith) (omega arith) (omega arith) (omega arith) (omega arith) (omega arith) (omega arith))
+    (counts-then state_ahead state_ahead (both (files count) (revisions 1)) (requests (length messages)) (given w.state) (loader_brought messages w)
+    (tellings_told told)
+    (event-gives (files count) w (loader_brought messages w)
+    (gives-then (files count) w (at_files (loaded messages) w) (λ v. at_workspaces (renewed_if (bring_files messages) v.state.desk.turns) v)
     (λ v. given-workspaces v.state (renewed_if (bring_files messages) v.state.desk.turns v.state.workspaces)
     (renewed-runs (bring_files messages) v.state.desk.turns v.state.workspaces).versions)
-    (event-files meaning s input (files_among messages) (loaded messages) refl
-    (become-counts (λ now. with_files now w.state) (files (files_among messages)) (given w.state) _ _ (messages-count messages w.state))))
+    (files-do (files count) w (loaded messages)
+    (become-counts (λ now. with_files now w.state) (files count) (given w.state) _ _ (messages-count messages w.state)))))
+    (λ v is. told-at-most (length messages) told v (scans-few s.client.settings.root_path messages)))
 event-does meaning s (Deferred tasks) =
     let w : TurnState State = turn_begun s in
     let input : Input = Next (Deferred tasks) in
@@ -804,7 +913,9 @@ event-does meaning s (Deferred tasks) =
     (resumed-do s tasks w))
 event-does meaning s (News news) =
     event-holds (for_event meaning s (Next (News news))) (turn_begun s) (happened meaning (News news) (turn_begun s))
-    (does-same (for_event meaning s (Next (News news))) (turn_begun s) (news_taken news (turn_begun s)) (news-same news (turn_begun s)))
+    (counts-more state_ahead (requests (news_count news + 1)) (for_event meaning s (Next (News news))) (held (turn_begun s).state) (news_taken news (turn_begun s))
+    (at-most _ _ (omega arith) (omega arith) (omega arith) (omega arith) (omega arith) (omega arith) (omega arith))
+    (news-does news (turn_begun s)))
 event-does meaning s (Timer ticket) =
     event-holds (for_event meaning s (Next (Timer ticket))) (turn_begun s) (happened meaning (Timer ticket) (turn_begun s))
     (does-same (for_event meaning s (Next (Timer ticket))) (turn_begun s) (timed ticket (turn_begun s))
@@ -884,6 +995,12 @@ files_part-does t =
     parts-same none t (in_state files_done t) (knowing (some_processed t.state.state.files)) (λ u. refl)
     (part-does none files_done t (done-does _))
 
+switch_part-does : (t : TurnState Turning) → PartDoes for_switch t (switch_part t)
+unfolding switch_part
+switch_part-does t =
+    parts-same for_switch t (in_state switch_done t) (knowing_crates (crates_come t.state.state)) (λ u. refl)
+    (part-does for_switch switch_done t (switch-does _))
+
 event_part-does : (meaning : Meaning) (s : State) (event : Event)
     → Counts turning_ahead (for_event_part meaning s event) (given s) (event_part meaning event (turning (turn_start s)))
 unfolding event_part
@@ -897,11 +1014,10 @@ for_before_quiet meaning s event = both (for_event_part meaning s event) (both f
 
 before-quiet-does : (meaning : Meaning) (s : State) (event : Event)
     → Counts turning_ahead (for_before_quiet meaning s event) (given s) (parts_before_quiet meaning (Next event) (turning (turn_start s)))
-unfolding switch_part
 before-quiet-does meaning s event =
     counts-then turning_ahead turning_ahead (for_event_part meaning s event) (both for_switch none) (given s)
     (event_part meaning event (turning (turn_start s))) _ (event_part-does meaning s event)
-    (λ t is. part-then for_switch none switch_done files_part t switch-does files_part-does)
+    (λ t is. parts-then for_switch none t (switch_part t) files_part (switch_part-does t) files_part-does)
 
 -- and then what is done in a quiescent session, and the files that are published
 quiet_part-does : (event : Event) (t : TurnState Turning)

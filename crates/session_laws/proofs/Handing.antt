@@ -19,7 +19,7 @@ use Rattle.desk_laws.proofs.Results.{IfOk-and_then, IfOk-weaker, IfOk-within}
 use Rattle.workspaces.specs.Fetches.{fires, start_up}
 use Rattle.session_model.specs.Fetching.{with_fetches}
 use Rattle.session_model.specs.Machine.{Turning, all_resumed, begin_part, build_part, turn_closed, closing_part, turn_counted, event_part, fetch_part}
-use Rattle.session_model.specs.Machine.{batch_done, came_or_went, marked_published, publish_part, refreshes_done}
+use Rattle.session_model.specs.Machine.{batch_done, came_or_went, checks_done, crates_come, knowing_crates, marked_published, publish_part, refreshes_done}
 use Rattle.session_model.specs.Machine.{fetch_started, files_done, files_part, happened, in_state, desk_kept, knowing, quiet_part, register_part, revised}
 use Rattle.session_model.specs.Machine.{runs_started, some_processed, state_in, at_workspaces, begun_fetches, quiet_done, saves_registered, status_done}
 use Rattle.session_model.specs.Machine.{status_part, step, switch_done, switch_part, event_taken, timer_set, turned, turning, with_desk, with_state}
@@ -39,12 +39,12 @@ use Rattle.session_laws.proofs.Asides.{aside-speaks}
 use Rattle.session_laws.proofs.Beside.{beside-spawned}
 use Rattle.session_laws.proofs.Counting.{Counts, given, state_ahead}
 use Rattle.session_laws.proofs.Exhausting.{for_event_part, taken_in-does}
-use Rattle.session_laws.proofs.OwnJobs.{Asks, batch-done-over, batch_due, due-same, quiet-is, quiet-split, refreshes-ask}
+use Rattle.session_laws.proofs.Announcing.{Announces, announcing, checks-done-owe, refreshes-owe}
+use Rattle.session_laws.proofs.OwnJobs.{announces-over, batch-done-over, batch_due, due-same, quiet-is, quiet-split}
 use Rattle.session_laws.proofs.OwnJobs.{FetchOver, HandedOver, HandsOver, before-is, checks-over, checks-same, fetch-over, fetch_begun, hands-none, hands-on}
 use Rattle.session_laws.proofs.OwnJobs.{parts_from_fetch, plus-none, run-jobs-same, runs-over, step-split}
 use Rattle.session_laws.proofs.Rows.{Behind, FilesDone, counted-is, files-done, taken-behind}
-use Rattle.session_laws.proofs.Batches.{both-ok}
-use Rattle.session_laws.proofs.Saying.{asked_if-owes, marked-owe, refreshes-owe, speaking, status-owes}
+use Rattle.session_laws.proofs.Saying.{asked_if-owes, marked-owe, speaking, status-owes}
 use Rattle.session_laws.proofs.Switching.{SwitchDone, switch-does}
 use Rattle.session_laws.proofs.Telling.{Speaks}
 use Rattle.session_laws.proofs.Turns.{session_in}
@@ -169,7 +169,10 @@ switch-over : (t : TurnState Turning) → IfOk (switch_part t) (λ v. HandsOver 
 unfolding switch_part
 switch-over t =
     let w : TurnState State = session_in t in
-    part-over switch_done t (IfOk-weaker (switch_done w) (SwitchDone w) (HandsOver w []) (switch-does w) (λ v d. aside-over w v d.aside d.desk))
+    let Goal : TurnState Turning → Type 0 = λ v. HandsOver w [] (session_in v) in
+    IfOk-and_then (in_state switch_done t) (λ v. Ok (knowing_crates (crates_come t.state.state) v)) Goal Goal
+    (part-over switch_done t (IfOk-weaker (switch_done w) (SwitchDone w) (HandsOver w []) (switch-does w) (λ v d. aside-over w v d.aside d.desk)))
+    (λ v h. h)
 
 files-over : (t : TurnState Turning) → IfOk (files_part t) (λ v. HandsOver (session_in t) [] (session_in v))
 unfolding files_part
@@ -180,27 +183,19 @@ files-over t =
     (part-over files_done t (IfOk-weaker (files_done w) (FilesDone w) (HandsOver w []) (files-done w) (λ v f. aside-over w v f.aside f.desk)))
     (λ v h. h)
 
--- what the client is asked first hands over nothing, and leaves the batch that is due
-record Refreshes (w v : TurnState State) : Type 0 where
-  asks : Asks w v
-  hands : HandsOver w [] v
-
-refreshes-over : (facts : FactsBefore) (w : TurnState State) → IfOk (refreshes_done facts w) (Refreshes w)
-refreshes-over facts w =
-    IfOk-weaker (refreshes_done facts w) (λ v. Asks w v × Speaks w v) (Refreshes w)
-    (both-ok (refreshes_done facts w) (Asks w) (Speaks w) (refreshes-ask facts w) (refreshes-owe Speaks speaking facts w))
-    (λ v (asks, said). record { asks = asks; hands = aside-over w v (aside-speaks w v said) said.desk })
-
 quiet-done-over : (input : Input) (facts : FactsBefore) (w : TurnState State)
     → IfOk (quiet_done input facts w) (HandsOver w (batch_due (came_or_went input) facts w.state))
 unfolding quiet_done
 quiet-done-over input facts w =
     let came : Bool = came_or_went input in
     let due : List OwnJob = batch_due came facts w.state in
-    IfOk-and_then (refreshes_done facts w) (batch_done came facts) (Refreshes w) (HandsOver w due) (refreshes-over facts w)
-    (λ v r. IfOk-weaker (batch_done came facts v) (HandsOver v (batch_due came facts v.state)) (HandsOver w due) (batch-done-over came facts v)
-    (λ u h. hands-on (spawned w.out.commands) w.state.desk.last_job [] due v u r.hands
-    (subst (λ (own : List OwnJob). HandsOver v own u) (due-same came facts w v r.asks) h)))
+    IfOk-and_then (checks_done facts w) (λ w. and_then (refreshes_done facts w) (batch_done came facts)) (Announces w) (HandsOver w due)
+    (checks-done-owe Announces announcing facts w)
+    (λ v a. IfOk-and_then (refreshes_done facts v) (batch_done came facts) (Announces w) (HandsOver w due)
+    (IfOk-weaker (refreshes_done facts v) (Announces v) (Announces w) (refreshes-owe Announces announcing facts v) (λ u b. announcing.on w v u a b))
+    (λ u b. IfOk-weaker (batch_done came facts u) (HandsOver u (batch_due came facts u.state)) (HandsOver w due) (batch-done-over came facts u)
+    (λ x h. hands-on (spawned w.out.commands) w.state.desk.last_job [] due u x (announces-over w u b)
+    (subst (λ (own : List OwnJob). HandsOver u own x) (due-same came facts w u b) h))))
 
 quiet-over : (event : Event) (t : TurnState Turning)
     → IfOk (quiet_part (Next event) t) (λ v. HandsOver (session_in t) (batch_jobs_due (Next event) t.state) (session_in v))

@@ -40,6 +40,9 @@ use Rattle.session_laws.proofs.Entered.{filed-parents, filed-same, filed_client,
 use Rattle.session_laws.proofs.Entered.{still-same}
 use Rattle.session_laws.proofs.Filing.{Processes, PutsCrates, crates-put, processed-does}
 use Rattle.session_laws.proofs.Following.{deferred-same, further-same}
+use Rattle.activities.specs.Work.{graph_told}
+use Rattle.session_model.specs.Machine.{tellings_told}
+use Rattle.session_laws.proofs.Announcing.{Announces, announcing, told-owe}
 use Rattle.session_laws.proofs.Saying.{Saying, asked_if-owes, warned-owes}
 use Rattle.session_laws.proofs.Turns.{Begins}
 use Rattle.session_laws.proofs.Walk.{Owed, built-owes, closed-owes, event-owes, walk}
@@ -129,6 +132,7 @@ still-says = record {
   runs = λ w workspaces same. record { host = refl; sources = refl; settings = refl; errors = refl };
   status = λ w status. record { host = refl; sources = refl; settings = refl; errors = refl };
   board = λ w board. record { host = refl; sources = refl; settings = refl; errors = refl };
+  activities = λ w activities. record { host = refl; sources = refl; settings = refl; errors = refl };
 }
 
 lets-in : (tells : Bool) → Owed (AltersTo tells)
@@ -140,6 +144,7 @@ lets-in tells = record {
     runs = λ w workspaces same. alters-still tells w.state _ (still-says.runs w workspaces same);
     status = λ w status. alters-still tells w.state _ (still-says.status w status);
     board = λ w board. alters-still tells w.state _ (still-says.board w board);
+    activities = λ w activities. alters-still tells w.state _ (still-says.activities w activities);
   };
   times = λ ticket w. ordered-alters tells _ w;
   desk = λ w desk out passes. alters-still tells w.state _ (record { host = refl; sources = refl; settings = refl; errors = refl });
@@ -187,17 +192,27 @@ renews-behind s t u p q = record { host = q.host ∙ p.host; settings = q.settin
     either (inl same) = inl (same ∙ p.sources)
     either (inr now) = inr now
 
+-- and so behind what is told of work beside the jobs
+renews-announced : (s : State) (v u : TurnState State) → Renews s v.state → Announces v u → Renews s u.state
+renews-announced s v u r a =
+    subst (Renews s) (sym a.state) (record { host = r.host; settings = r.settings; errors = r.errors; sources = r.sources })
+
+graph-renews : (s : State) (w : TurnState State) → Renews s w.state → IfOk (tellings_told graph_told w) (λ v. Renews s v.state)
+graph-renews s w r =
+    IfOk-weaker (tellings_told graph_told w) (Announces w) _ (told-owe Announces announcing graph_told w) (λ v a. renews-announced s w v r a)
+
 followed-renews : (follows : Follows) (w : TurnState State) → IfOk (switch_followed follows w) (λ v. Renews w.state v.state)
 unfolding switch_followed roots_renewed loader_set ordered watchers_registered
 followed-renews Nothing w = still-renews w.state w.state (still-none w.state)
-followed-renews CratesAnew w = still-renews w.state w.state (still-none w.state)
+followed-renews CratesAnew w = graph-renews w.state w (still-renews w.state w.state (still-none w.state))
 followed-renews (Wait msrv) w = still-renews w.state _ (warned-owes StillTo still-says msrv w)
 followed-renews (GoOn msrv version initial) w =
     let v : TurnState State = warned msrv w in
-    IfOk-and_then (watchers_registered v) (λ u. Ok (roots_renewed (loader_set version u))) (StillTo v) (λ u. Renews w.state u.state)
+    IfOk-and_then (watchers_registered v) (λ u. tellings_told graph_told (roots_renewed (loader_set version u))) (StillTo v) (λ u. Renews w.state u.state)
     (asked_if-owes StillTo still-says _ _ v)
-    (λ u still. renews-behind w.state u.state _ (still-on w.state v.state u.state (warned-owes StillTo still-says msrv w) still)
-    (record { host = refl; settings = refl; errors = refl; sources = inr refl }))
+    (λ u still. graph-renews w.state (roots_renewed (loader_set version u))
+    (renews-behind w.state u.state _ (still-on w.state v.state u.state (warned-owes StillTo still-says msrv w) still)
+    (record { host = refl; settings = refl; errors = refl; sources = inr refl })))
 
 -- the roots may become others, and then these enter
 pub record Behind (tells : Bool) (s t : State) : Type 0 where

@@ -26,7 +26,9 @@ use Rattle.session_model.specs.declared.input.Input.TheVariants.{Start, Next}
 use Rattle.session_laws.specs.Ordered.{loader_version, loader_versions}
 use Rattle.session_laws.proofs.Passing.{Passes}
 use Rattle.session_laws.proofs.Made.{IsNext, Outcome, switch-makes}
-use Rattle.session_laws.proofs.Saying.{asked_if-owes, warned-owes}
+use Rattle.activities.specs.Work.{graph_told}
+use Rattle.session_model.specs.Machine.{tellings_told}
+use Rattle.session_laws.proofs.Saying.{asked_if-owes, told-owe, warned-owes}
 use Rattle.session_laws.proofs.Turns.{Begins}
 use Rattle.session_laws.proofs.Walk.{Owed, built-owes, closed-owes, event-owes, owed-by, walk}
 
@@ -68,7 +70,9 @@ record SameVersions (w v : TurnState State) : Type 0 where
   given : given_in v ≡ given_in w
 
 passes-versions : (old new : Written) → Passes old new → filter_map loader_version new.commands ≡ filter_map loader_version old.commands
-passes-versions old new passes = passes loader_version (record { jobs = λ job. refl; logs = λ code text. refl; defers = λ task. refl })
+passes-versions old new passes = passes loader_version (record { jobs = λ job. refl; logs = λ code text. refl; defers = λ task. refl;
+      sets = λ checks. refl; restarts = λ id scope. refl; cancels = λ id. refl; runs = λ include exclude. refl;
+      stops = refl; discovers = λ arg. refl })
 
 other-passes : (command : Command) (w : TurnState State) → loader_version command ≡ None → SameVersions w (ordered command w)
 unfolding ordered
@@ -112,21 +116,28 @@ given-next before count version w next now rises = record {
       ∙ sym (range-more (before + 1) count);
 }
 
+-- it is told that crate data is built
+graph-rises : (before : ℕ) (w : TurnState State) → Rises before w → IfOk (tellings_told graph_told w) (Rises before)
+graph-rises before w rises =
+    IfOk-weaker (tellings_told graph_told w) (SameVersions w) (Rises before) (told-owe SameVersions same-versions.saying graph_told w)
+    (λ v same. rises-same before w v rises same)
+
 -- what follows a switch that has left these workspaces
 follows-rise : (before count : ℕ) (follows : Follows) (w : TurnState State) → IsNext (before + count) follows (version_in w)
     → given_in w ≡ range_with_len (before + 1) count
     → IfOk (switch_followed follows w) (Rises before)
 unfolding switch_followed watchers_registered
 follows-rise before count Nothing w next rises = record { count = count; version = next; given = rises }
-follows-rise before count CrateData w next rises = record { count = count; version = next; given = rises }
+follows-rise before count CrateData w next rises = graph-rises before w (record { count = count; version = next; given = rises })
 follows-rise before count (Wait msrv) w next rises =
     rises-same before w (warned msrv w) (record { count = count; version = next; given = rises }) (warned-owes SameVersions same-versions.saying msrv w)
 follows-rise before count (GoOn msrv version initial) w next rises =
     let v : TurnState State = warned msrv w in
     let warns = warned-owes SameVersions same-versions.saying msrv w in
-    IfOk-and_then (watchers_registered v) (λ u. Ok (roots_renewed (loader_set version u))) (SameVersions v) (Rises before)
+    IfOk-and_then (watchers_registered v) (λ u. tellings_told graph_told (roots_renewed (loader_set version u))) (SameVersions v) (Rises before)
     (asked_if-owes SameVersions same-versions.saying _ _ v)
-    (λ u same. given-next before count version u next.0 (same.version ∙ warns.version ∙ next.1) (same.given ∙ warns.given ∙ rises))
+    (λ u same. graph-rises before (roots_renewed (loader_set version u))
+    (given-next before count version u next.0 (same.version ∙ warns.version ∙ next.1) (same.given ∙ warns.given ∙ rises)))
 
 made-rises : (before : ℕ) (made : Result (Follows × Workspaces) Counter) (w : TurnState State) → (r : Rises before w) → Outcome w.state.workspaces made
     → IfOk (switch_taken made w) (Rises before)

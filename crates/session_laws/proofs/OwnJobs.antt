@@ -24,11 +24,13 @@ use Rattle.session_port.specs.declared.fault.Counter.TheVariants.{Jobs as JobsCo
 use Rattle.session_port.specs.declared.job.Job.{Job}
 use Rattle.session_port.specs.declared.job.JobKind.{JobKind}
 use Rattle.session_port.specs.declared.job.JobKind.TheVariants.{FetchBuildData}
+use Rattle.activities.specs.declared.activities.Activities.{Activities}
 use Rattle.desk.specs.Desk.{Desk}
 use Rattle.desk.specs.Meaning.{Meaning}
 use Rattle.desk.specs.Steps.{handed_over}
 use Rattle.desk_laws.proofs.Appends.{spawned-append}
-use Rattle.desk_laws.proofs.Results.{IfOk-and_then, IfOk-if, IfOk-next, IfOk-weaker, IfOk-within}
+use Rattle.desk_laws.proofs.Results.{IfOk-and_then, IfOk-next, IfOk-weaker, IfOk-within}
+use Rattle.session_laws.proofs.Announcing.{Announces}
 use Rattle.workspaces.specs.Fetches.{fetch_to_start, start_fetch}
 use Rattle.workspaces.specs.Workspaces.{Workspaces}
 use Rattle.workspaces.specs.declared.requests.FetchRequest.{FetchRequest}
@@ -182,66 +184,42 @@ pub batch-done-over : (came : Bool) (facts : FactsBefore) (w : TurnState State) 
 unfolding batch_done
 batch-done-over came facts w = batch-cases (is_batch_due facts.quiescent (is_quiescent w.state.files w.state.workspaces) facts.processed came) w
 
--- what the client is asked before it leaves all but the requests to the client
-pub record Asks (w v : TurnState State) : Type 0 where
-  pub state : v.state ≡ with_client (record w.state.client { asked = v.state.client.asked }) w.state
+-- what is told of work beside the jobs, and what the client is asked, leaves the batch that is due
+abbrev announced : State → Outgoing ReqHandler → Activities → State
+announced s asked activities = record s { client = record s.client { asked = asked }; activities = activities }
 
-asks-none : (w : TurnState State) → Asks w w
-asks-none w = record { state = refl }
+lists-same : (generation : Option ℕ) (s : State) (asked : Outgoing ReqHandler) (activities : Activities)
+    → lists_asked generation (announced s asked activities) ≡ lists_asked generation s
+lists-same None s asked activities = refl
+lists-same (Some generation) s asked activities = refl
 
-asks-on : (w v u : TurnState State) → Asks w v → Asks v u → Asks w u
-asks-on w v u p q = record {
-  state = q.state ∙ ap (λ (s : State). with_client (record s.client { asked = u.state.client.asked }) s) p.state;
-}
-
-asked_if-asks : (wanted : Bool) (message : Outgo) (w : TurnState State) → IfOk (asked_if wanted message w) (Asks w)
-unfolding asked_if asked_for written
-asked_if-asks false message w = asks-none w
-asked_if-asks true message w =
-    IfOk-within client_in with_client (asked_for message Ignore) w (Asks w)
-    (IfOk-if (w.state.client.asked.given == number_limit) _ _ _ tt (record { state = refl }))
-
-asks-then : (r : Result (TurnState State) Counter) (f : TurnState State → Result (TurnState State) Counter) (w : TurnState State) → IfOk r (Asks w)
-    → ((v : TurnState State) → IfOk (f v) (Asks v)) → IfOk (and_then r f) (Asks w)
-asks-then r f w first next = IfOk-and_then r f (Asks w) (Asks w) first (λ v p. IfOk-weaker (f v) (Asks v) (Asks w) (next v) (λ u q. asks-on w v u p q))
-
-pub refreshes-ask : (facts : FactsBefore) (w : TurnState State) → IfOk (refreshes_done facts w) (Asks w)
-unfolding refreshes_done client_refreshed
-refreshes-ask facts w =
-    let can = w.state.client.settings.capabilities in
-    IfOk-if (is_refresh_due facts.quiescent (is_quiescent w.state.files w.state.workspaces) facts.processed) _ (Ok w) (Asks w)
-    (asks-then (asked_if can.semantic_tokens_refresh SemanticTokensRefresh w) _ w (asked_if-asks can.semantic_tokens_refresh SemanticTokensRefresh w)
-    (λ v. asks-then (asked_if can.code_lens_refresh CodeLensRefresh v) _ v (asked_if-asks can.code_lens_refresh CodeLensRefresh v)
-    (λ u. asks-then (asked_if can.inlay_hints_refresh InlayHintRefresh u) _ u (asked_if-asks can.inlay_hints_refresh InlayHintRefresh u)
-    (asked_if-asks can.diagnostics_refresh DiagnosticRefresh))))
-    (asks-none w)
-
--- and so the batch that is due
-lists-same : (generation : Option ℕ) (s : State) (asked : Outgoing ReqHandler)
-    → lists_asked generation (with_client (record s.client { asked = asked }) s) ≡ lists_asked generation s
-lists-same None s asked = refl
-lists-same (Some generation) s asked = refl
-
-kinds-same : (s : State) (asked : Outgoing ReqHandler) → batch_kinds (with_client (record s.client { asked = asked }) s) ≡ batch_kinds s
+kinds-same : (s : State) (asked : Outgoing ReqHandler) (activities : Activities) → batch_kinds (announced s asked activities) ≡ batch_kinds s
 unfolding batch_kinds
-kinds-same s asked =
+kinds-same s asked activities =
     ap (λ (lists : List JobKind). (if shows_diagnostics s.client.settings then lists else [])
     ++ (if s.client.settings.capabilities.test_explorer then tests_asked (subscribed s.files) else []))
-    (lists-same (next_generation s.board) s asked)
+    (lists-same (next_generation s.board) s asked activities)
 
-jobs-same : (b : Bool) (s : State) (asked : Outgoing ReqHandler) → batch_jobs_if b (with_client (record s.client { asked = asked }) s) ≡ batch_jobs_if b s
-jobs-same false s asked = refl
-jobs-same true s asked =
-    let t : State = with_client (record s.client { asked = asked }) s in
-    ap (map (awaited_job t)) (kinds-same s asked) ∙ awaited-same t s (batch_kinds s) refl
+jobs-same : (b : Bool) (s : State) (asked : Outgoing ReqHandler) (activities : Activities)
+    → batch_jobs_if b (announced s asked activities) ≡ batch_jobs_if b s
+jobs-same false s asked activities = refl
+jobs-same true s asked activities =
+    let t : State = announced s asked activities in
+    ap (map (awaited_job t)) (kinds-same s asked activities) ∙ awaited-same t s (batch_kinds s) refl
 
-pub due-same : (came : Bool) (facts : FactsBefore) (w v : TurnState State) → Asks w v → batch_due came facts v.state ≡ batch_due came facts w.state
-due-same came facts w v asks =
-    ap (batch_due came facts) asks.state
+pub due-same : (came : Bool) (facts : FactsBefore) (w v : TurnState State) → Announces w v → batch_due came facts v.state ≡ batch_due came facts w.state
+due-same came facts w v a =
+    ap (batch_due came facts) a.state
     ∙ jobs-same (is_batch_due facts.quiescent (is_quiescent w.state.files w.state.workspaces) facts.processed came) w.state v.state.client.asked
+    v.state.activities
 
-asks-over : (w v : TurnState State) → Asks w v → spawned v.out.commands ≡ spawned w.out.commands → HandsOver w [] v
-asks-over w v asks spawns = hands-none w v spawns (ap (λ (s : State). s.desk) asks.state)
+-- and hands over nothing
+pub announces-over : (w v : TurnState State) → Announces w v → HandsOver w [] v
+announces-over w v a =
+    hands-none w v
+    (ap spawned a.says.tells.ordered ∙ spawned-append w.out.commands a.says.tells.commands
+    ∙ ap (λ (js : List Job). spawned w.out.commands ++ js) a.says.tells.spawns_none ∙ append-nil _)
+    (ap (λ (s : State). s.desk) a.state)
 
 -- ---- work that is due
 

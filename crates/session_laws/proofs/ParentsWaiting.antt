@@ -21,7 +21,11 @@ use Rattle.client.specs.Client.{Client}
 use Rattle.client.specs.Folds.{after_answer, after_folders, follows}
 use Rattle.client.specs.Steps.{answered, folders_changed}
 use Rattle.desk.specs.Meaning.{Meaning}
-use Rattle.desk_laws.proofs.Results.{IfOk-and_then, IfOk-within}
+use Rattle.desk_laws.proofs.Results.{IfOk-and_then, IfOk-weaker, IfOk-within}
+use Rattle.session_model.specs.Fetching.{settings_told}
+use Rattle.session_model.specs.Machine.{at_workspaces, checks_renewed_if}
+use Rattle.session_model.specs.Restarting.{has_other_checks}
+use Rattle.session_laws.proofs.Announcing.{Announces, announcing, renewed_if-owes}
 use Rattle.session_model.specs.Hearing.{heard_of, told_by}
 use Rattle.session_model.specs.Machine.{answer_taken, at_client, client_in, turn_counted, folders_taken, happened, noticed, received, step, event_taken, told}
 use Rattle.session_model.specs.Machine.{with_client}
@@ -247,7 +251,11 @@ response-tells r s =
       has =
           record { settings = ap (λ (c : Client). c.settings) d.is; errors = ap (λ (c : Client). c.errors) d.is };
     }))
-    (λ v e. record { host = e.host; sources = e.sources; parents = e.parents; has = record { settings = e.has.settings; errors = e.has.errors } })
+    (λ v e. let u : TurnState State = at_workspaces (settings_told s.client.settings v.state.client.settings) v in
+    let other : Bool = has_other_checks s.client.settings v.state.client.settings in
+    IfOk-weaker (checks_renewed_if other u) (Announces u) _ (renewed_if-owes Announces announcing other u)
+    (λ x a. subst (EventTells (after_answer r s.client) s) (sym a.state)
+    (record { host = e.host; sources = e.sources; parents = e.parents; has = record { settings = e.has.settings; errors = e.has.errors } })))
 
 folders-tell : (added removed : List (List ℕ)) (s : State)
     → IfOk (folders_taken added removed (turn_begun s)) (λ v. EventTells (after_folders added removed s.client) s v.state)

@@ -25,6 +25,8 @@ use Rattle.session_port.specs.declared.event.TaskMsg.{TaskMsg}
 use Rattle.session_port.specs.declared.fault.Counter.{Counter}
 use Rattle.session_port.specs.declared.fault.Counter.TheVariants.{Jobs, Outgoing, Turns}
 use Rattle.session_port.specs.declared.job.JobKind.{JobKind}
+use Rattle.session_port.specs.Events.{revision_of}
+use Rattle.session_port.specs.Record.{spawned}
 use Rattle.session_port.specs.TurnState.{TurnState, logged, ordered, written}
 use Rattle.session_port.specs.Written.{Written}
 use Rattle.client.specs.Answers.{chooses, fault_in}
@@ -45,7 +47,7 @@ use Rattle.desk_laws.proofs.Appends.{passed-append}
 use Rattle.desk_laws.proofs.Results.{IfOk-next, IfOk-weaker}
 use Rattle.desk_laws.proofs.Settling.{cancel-settles, message-settles, request-settles}
 use Rattle.session_laws.specs.Beside.{Tells}
-use Rattle.session_laws.proofs.Telling.{tells-deferred, tells-logged, tells-none, tells-notification, tells-request}
+use Rattle.session_laws.proofs.Telling.{tells-deferred, tells-logged, tells-none, tells-notification, tells-on, tells-ordered, tells-request}
 use Rattle.session_files.specs.Changing.{has_skipped}
 use Rattle.session_files.specs.Folds.{after_crates, after_editing, after_messages, after_opening, after_processing, is_open}
 use Rattle.session_files.specs.SessionFiles.{SessionFiles}
@@ -87,11 +89,24 @@ pub record Says (old new : Written) : Type 0 where
 pub says-none : (out : Written) → Says out out
 says-none out = record { passes = passes-none out; tells = tells-none out }
 
+pub says-on : (a b c : Written) → Says a b → Says b c → Says a c
+says-on a b c p q = record { passes = passes-on a b c p.passes q.passes; tells = tells-on a b c p.tells q.tells }
+
 pub says-logged : {S : Type 0} (code : LogCode) (text : List ℕ) (w : TurnState S) → Says w.out (logged code text w).out
 says-logged code text w = record { passes = passes-logged code text w; tells = tells-logged code text w }
 
 pub says-deferred : {S : Type 0} (task : DeferredTask) (w : TurnState S) → Says w.out (ordered (Defer task) w).out
 says-deferred task w = record { passes = passes-deferred task w; tells = tells-deferred task w }
+
+-- an order to work beside the jobs
+pub says-ordered : {S : Type 0} (command : Command) (w : TurnState S)
+    → ((number_of : Command → Option ℕ) → PassesOver number_of → number_of command ≡ None) → spawned (command ∷ []) ≡ []
+    → filter_map revision_of (command ∷ []) ≡ [] → Says w.out (ordered command w).out
+unfolding ordered
+says-ordered command w passes spawns revises = record {
+  passes = λ number_of over. passed-append number_of w.out.commands command (passes number_of over);
+  tells = tells-ordered command w spawns revises;
+}
 
 pub says-notified : {S : Type 0} (message : Outgo) (w : TurnState S) → Says w.out (written (notification_of message) w).out
 unfolding written

@@ -42,7 +42,9 @@ use Rattle.session_model.specs.declared.input.Input.{Input}
 use Rattle.session_model.specs.declared.input.Input.TheVariants.{Start, Next}
 use Rattle.session_laws.specs.Ordered.{each_once, file_to_read, files_told, urls_told}
 use Rattle.session_laws.proofs.Passing.{Passes, close-noted-passes}
-use Rattle.session_laws.proofs.Saying.{logged-owes}
+use Rattle.session_model.specs.Machine.{checks_restarted_if}
+use Rattle.session_model.specs.Restarting.{restart_checks}
+use Rattle.session_laws.proofs.Saying.{logged-owes, restarted_if-owes}
 use Rattle.session_laws.proofs.Walk.{Owed, closed-owes, counted-owes, happened-owes, notifies, owed-by, rereads, switched-owes, told-owes, walk}
 
 -- ---- what passes has no file read anew
@@ -94,7 +96,9 @@ passes-files : (old new : Written) → Passes old new → filter_map file_to_rea
 passes-files old new passes =
     same-texts (filter_map file_to_read new.commands) (filter_map file_to_read old.commands)
     (λ number. sym (numbers-are number new.commands) ∙ passes (file_number number)
-    (record { jobs = λ job. refl; logs = λ code text. refl; defers = λ task. refl }) ∙ numbers-are number old.commands)
+    (record { jobs = λ job. refl; logs = λ code text. refl; defers = λ task. refl;
+      sets = λ checks. refl; restarts = λ id scope. refl; cancels = λ id. refl; runs = λ include exclude. refl;
+      stops = refl; discovers = λ arg. refl }) ∙ numbers-are number old.commands)
 
 -- the files that have been ordered to be read anew
 abbrev to_read : TurnState State → List (List ℕ)
@@ -192,12 +196,15 @@ told-reads (notices.DidSave uri) w none = plain-reads (notices.DidSave uri) w re
 told-reads notices.DidChangeConfiguration w none = plain-reads notices.DidChangeConfiguration w refl none
 told-reads (notices.DidChangeWorkspaceFolders added removed) w none = plain-reads (notices.DidChangeWorkspaceFolders added removed) w refl none
 told-reads (notices.DidChangeWatchedFiles urls) w none =
-    watched-reads finmap.empty [] urls w seen-none ∙ ap (λ fs. fs ++ filter_map named (each_once [] urls)) none
-told-reads (notices.CancelProgress token) w none = none
-told-reads notices.CancelFlycheck w none = none
+    let v : TurnState State = files_changed finmap.empty urls w in
+    let restarts : Bool = restart_checks w.state.client.settings urls in
+    IfOk-weaker (checks_restarted_if restarts v) (SameFiles v) _ (restarted_if-owes SameFiles same-files.saying restarts v)
+    (λ u same. same ∙ watched-reads finmap.empty [] urls w seen-none ∙ ap (λ fs. fs ++ filter_map named (each_once [] urls)) none)
+told-reads (notices.CancelProgress token) w none = plain-reads (notices.CancelProgress token) w refl none
+told-reads notices.CancelFlycheck w none = plain-reads notices.CancelFlycheck w refl none
 told-reads notices.ClearFlycheck w none = none
-told-reads (notices.RunFlycheck uri) w none = none
-told-reads notices.AbortRunTest w none = none
+told-reads (notices.RunFlycheck uri) w none = plain-reads (notices.RunFlycheck uri) w refl none
+told-reads notices.AbortRunTest w none = plain-reads notices.AbortRunTest w refl none
 
 heard-reads : (heard : Heard) (method : List ℕ) (w : TurnState State) → Reads [] w
     → IfOk (noticed heard method w) (Reads (filter_map named (urls_told (told_by heard))))

@@ -1,5 +1,12 @@
 -- One walk through the steps of a turn that log, tell or ask something, for any relation between what was before a step and what is behind it.
-use Rattle.std.proofs.Common.{ℕ, List, [], ◌∷◌, Bool, true, false, refl, sym, subst}
+use Rattle.std.proofs.Common.{ℕ, List, [], ◌∷◌, length, Bool, true, false, refl, sym, subst}
+use Rattle.activities.specs.Announced.{Announced}
+use Rattle.activities.specs.Checks.{Checks, all_restarted, checks_set, progressed}
+use Rattle.activities.specs.TestRun.{Tests, run_asked, test_told}
+use Rattle.activities.specs.Work.{graph_told}
+use Rattle.activities.specs.declared.activities.Activities.{Activities}
+use Rattle.activities.specs.declared.telling.Telling.{Telling}
+use Rattle.activities.specs.declared.telling.Telling.TheVariants as tellings
 use Rattle.std.specs.Prelude.{Option, None, Some, is_some, Result, Ok, Err, IfOk, if◌then◌else◌}
 use Rattle.std.specs.FinMap as map
 use Rattle.plain.specs.Texts.{text_cmp}
@@ -14,25 +21,34 @@ use Rattle.lsp_types.specs.declared.diagnostic.Diagnostic.{Diagnostic}
 use Rattle.ra_config.specs.declared.capabilities.Capabilities.{Capabilities}
 use Rattle.serde_json.specs.Data.{Data}
 use Rattle.session_port.specs.declared.command.Command.TheVariants.{Invalidate}
+use Rattle.session_port.specs.declared.command.Command.TheVariants as orders
 use Rattle.session_port.specs.declared.command.DeferredTask.TheVariants.{CheckProcMacroSources}
 use Rattle.session_port.specs.declared.command.LogCode.{LogCode}
-use Rattle.session_port.specs.declared.command.LogCode.TheVariants.{CheckUnknownFile, SecondSettingsFile, UnknownSave}
+use Rattle.session_port.specs.declared.command.LogCode.TheVariants.{BadPath, CheckUnknownFile, SecondSettingsFile, UnknownSave}
 use Rattle.session_port.specs.declared.fault.Counter.{Counter}
 use Rattle.session_port.specs.declared.news.FlycheckMsg.{FlycheckMsg}
 use Rattle.session_port.specs.declared.news.FlycheckMsg.TheVariants as checks
+use Rattle.session_port.specs.declared.news.TestMsg.{TestMsg}
+use Rattle.method_table.specs.declared.request.RunTest.{RunTest}
 use Rattle.session_port.specs.TurnState.{TurnState, and_then, logged, ordered, written}
 use Rattle.session_port.specs.Written.{Written}
 use Rattle.change_effects.specs.declared.effects.ChangeEffects.{ChangeEffects}
 use Rattle.client.specs.Client.{Client}
 use Rattle.client.specs.Folds.{after_asking}
+use Rattle.client.specs.Progress.{progress_reported, progress_shown, shows_progress, token_of, token_shown, value_at}
 use Rattle.client.specs.Steps.{asked_for, logged_if, notification_of}
+use Rattle.client.specs.declared.work.WorkProgress.{WorkProgress}
 use Rattle.client.specs.declared.handler.ReqHandler.{ReqHandler}
 use Rattle.client.specs.declared.handler.ReqHandler.TheVariants.{Ignore, OpenLogs}
 use Rattle.notify.specs.declared.outgo.MessageKind.{MessageKind}
-use Rattle.notify.specs.declared.outgo.MessageKind.TheVariants.{Warning}
+use Rattle.notify.specs.declared.outgo.MessageKind.TheVariants.{Error, Warning}
 use Rattle.notify.specs.declared.outgo.Outgo.{Outgo}
 use Rattle.notify.specs.declared.outgo.Outgo.TheVariants.{CodeLensRefresh, DiagnosticRefresh, InlayHintRefresh, SemanticTokensRefresh, ShowMessage}
-use Rattle.notify.specs.declared.outgo.Outgo.TheVariants.{ShowMessageRequest}
+use Rattle.notify.specs.declared.outgo.Outgo.TheVariants.{CreateProgress, ShowMessageRequest}
+use Rattle.notify.specs.declared.outgo.Outgo.TheVariants.{Progress as ProgressTold}
+use Rattle.notify.specs.declared.outgo.Outgo.TheVariants as messages
+use Rattle.notify.specs.declared.progress.Progress.{Progress}
+use Rattle.notify.specs.declared.progress.Progress.TheVariants as states
 use Rattle.desk_laws.proofs.Results.{IfOk-and_then, IfOk-if, IfOk-weaker, IfOk-within}
 use Rattle.status.specs.Same.{is_same_status}
 use Rattle.status.specs.declared.status.Status.{Status}
@@ -45,21 +61,27 @@ use Rattle.op_board.specs.Board.{Board}
 use Rattle.op_board.specs.Marked.{taken}
 use Rattle.session_model.specs.Crates.{is_unknown}
 use Rattle.session_model.specs.Diagnosing.{deleted_cleared, publication}
-use Rattle.session_model.specs.Machine.{all_published, at_board, check_told, checks_told, files_published, found_added, marked_published, news_taken}
+use Rattle.session_model.specs.Machine.{all_published, at_board, check_told, checks_heard, checks_told, files_published, found_added, marked_published, news_taken}
+use Rattle.session_model.specs.Machine.{checks_announced, checks_done, checks_renewed_if, checks_restarted_if, checks_run, file_checked_at, file_checked_if}
+use Rattle.session_model.specs.Machine.{saved_file, telling_told, tellings_told, tests_announced, tests_heard, tests_run, with_activities}
 use Rattle.session_model.specs.Machine.{published_at, with_board}
 use Rattle.session_model.specs.Machine.{asked_if, at_client, client_in, effects_done, fetch_waits, file_changed, files_changed, files_followed, further_logged}
 use Rattle.session_model.specs.Machine.{loader_set, refreshes_done, client_refreshed, roots_renewed, save_noted, saved_at, settings_filed, sources_deferred}
 use Rattle.session_model.specs.Machine.{status_changed, status_done, status_kept, status_told, switch_followed, text_shown, warned, watchers_registered}
 use Rattle.session_model.specs.Machine.{with_client, with_sources, with_status, with_workspaces}
+use Rattle.session_model.specs.Restarting.{checks_all_on_save, checks_on_save, checks_workspaces, restart_at_rest, restarts_for}
 use Rattle.session_model.specs.Saving.{path_saved}
 use Rattle.session_model.specs.Sources.{change_for, client_with, further_files, parents_told}
 use Rattle.session_model.specs.State.{Sources, State}
 use Rattle.session_model.specs.Status.{opens_logs, shown_of, status_message, status_now, takes_status}
+use Rattle.session_model.specs.Telling.{begun_work, ended_work, reported_work}
 use Rattle.session_model.specs.Timing.{effects_for, fetch_planned}
 use Rattle.session_model.specs.declared.facts.FactsBefore.{FactsBefore}
 use Rattle.session_model.specs.declared.input.News.{News as NewsData}
 use Rattle.session_model.specs.declared.input.News.TheVariants as told_news
-use Rattle.session_laws.proofs.Passing.{Asks, Says, asked-says, says-deferred, says-logged, says-none, says-notified}
+use Rattle.session_laws.proofs.Announcing as announcing
+use Rattle.session_laws.proofs.Announcing.{Announcing}
+use Rattle.session_laws.proofs.Passing.{Says, says-deferred}
 use Rattle.session_laws.proofs.Running.{SameRuns, planned-runs, same-runs, save-runs}
 use Rattle.session_laws.proofs.Telling.{Speaks, speaks-on, tells-none}
 
@@ -77,6 +99,8 @@ pub record Saying (R : TurnState State → TurnState State → Type 0) : Type 0 
   pub status : (w : TurnState State) (status : Status) → R w (record w { state = with_status status w.state })
   -- the board of diagnostics is another
   pub board : (w : TurnState State) (board : Board) → R w (record w { state = with_board board w.state })
+  -- so is the work beside the jobs
+  pub activities : (w : TurnState State) (activities : Activities) → R w (record w { state = with_activities activities w.state })
 
 -- the settings and the sources may become others
 abbrev pub MayFile : (TurnState State → TurnState State → Type 0) → Type 0
@@ -91,42 +115,74 @@ abbrev pub MayRenew : (TurnState State → TurnState State → Type 0) → Type 
 MayRenew R = (version : ℕ) (w : TurnState State) → R w (roots_renewed (loader_set version w))
 
 module _ (R : TurnState State → TurnState State → Type 0) (owed : Saying R) where
+  -- what it owes as to what is told of work beside the jobs
+  abbrev pub telling : Announcing R
+  telling = record {
+    on = owed.on;
+    says = λ w out s none. owed.says w out s;
+    asks = λ handler w out s none. owed.asks handler w out s;
+    activities = owed.activities;
+  }
+
   pub none-owes : (w : TurnState State) → R w w
-  none-owes w = owed.says w w.out (says-none w.out)
+  none-owes w = announcing.none-owes R telling w
 
   -- one step and then another
   pub owes-then : (r : Result (TurnState State) Counter) (f : TurnState State → Result (TurnState State) Counter) (w : TurnState State) → IfOk r (R w)
       → ((v : TurnState State) → IfOk (f v) (R v)) → IfOk (and_then r f) (R w)
-  owes-then r f w first next = IfOk-and_then r f (R w) (R w) first (λ v p. IfOk-weaker (f v) (R v) (R w) (next v) (λ u q. owed.on w v u p q))
+  owes-then r f w first next = announcing.owes-then R telling r f w first next
+
+  pub behind-owes : (w v : TurnState State) (r : Result (TurnState State) Counter) → R w v → IfOk r (R v) → IfOk r (R w)
+  behind-owes w v r first next = announcing.behind-owes R telling w v r first next
 
   pub owes-if : (b : Bool) (w v u : TurnState State) → R w v → R w u → R w (if b then v else u)
   owes-if true w v u p q = p
   owes-if false w v u p q = q
 
   pub logged-owes : (code : LogCode) (text : List ℕ) (w : TurnState State) → R w (logged code text w)
-  unfolding logged ordered
-  logged-owes code text w = owed.says w _ (says-logged code text w)
+  logged-owes code text w = announcing.logged-owes R telling code text w
 
   pub logged_if-owes : (code : LogCode) (text : Option (List ℕ)) (w : TurnState State) → R w (logged_if code text w)
-  logged_if-owes code None w = none-owes w
-  logged_if-owes code (Some text) w = logged-owes code text w
+  logged_if-owes code text w = announcing.logged_if-owes R telling code text w
 
   pub notified-owes : (message : Outgo) (w : TurnState State) → R w (written (notification_of message) w)
   unfolding written
   notified-owes message w = owed.says w _ (says-notified message w)
 
-  -- the client is asked for something
   pub asking-owes : (message : Outgo) (handler : ReqHandler) (w : TurnState State) → IfOk (at_client (asked_for message handler) w) (R w)
-  asking-owes message handler w =
-      let client : TurnState Client = record { state = w.state.client; out = w.out } in
-      IfOk-within client_in with_client (asked_for message handler) w (R w)
-      (IfOk-weaker (asked_for message handler client) (Asks handler client) _ (asked-says message handler client)
-      (λ v p. subst (λ (c : Client). R w (record { state = with_client c w.state; out = v.out })) (sym p.1) (owed.asks handler w v.out p.0)))
+  asking-owes message handler w = announcing.asking-owes R telling message handler w
 
   pub asked_if-owes : (wanted : Bool) (message : Outgo) (w : TurnState State) → IfOk (asked_if wanted message w) (R w)
-  unfolding asked_if
-  asked_if-owes true message w = asking-owes message Ignore w
-  asked_if-owes false message w = none-owes w
+  asked_if-owes wanted message w = announcing.asked_if-owes R telling wanted message w
+
+  pub shown-owes : (button : Bool) (text : Option (List ℕ × MessageKind)) (w : TurnState State) → IfOk (text_shown button text w) (R w)
+  shown-owes button text w = announcing.shown-owes R telling button text w
+
+  -- ---- what is told of work beside the jobs
+
+  pub told-owe : (told : List Telling) (w : TurnState State) → IfOk (tellings_told told w) (R w)
+  told-owe told w = announcing.told-owe R telling told w
+
+  pub checks-announced-owe : (told : Announced Checks) (w : TurnState State) → IfOk (checks_announced told w) (R w)
+  checks-announced-owe told w = announcing.checks-announced-owe R telling told w
+
+  pub tests-announced-owe : (told : Announced Tests) (w : TurnState State) → IfOk (tests_announced told w) (R w)
+  tests-announced-owe told w = announcing.tests-announced-owe R telling told w
+
+  pub renewed_if-owes : (b : Bool) (w : TurnState State) → IfOk (checks_renewed_if b w) (R w)
+  renewed_if-owes b w = announcing.renewed_if-owes R telling b w
+
+  pub restarted_if-owes : (b : Bool) (w : TurnState State) → IfOk (checks_restarted_if b w) (R w)
+  restarted_if-owes b w = announcing.restarted_if-owes R telling b w
+
+  pub checked_if-owes : (b : Bool) (path : List ℕ) (w : TurnState State) → IfOk (file_checked_if b path w) (R w)
+  checked_if-owes b path w = announcing.checked_if-owes R telling b path w
+
+  pub checks-done-owe : (facts : FactsBefore) (w : TurnState State) → IfOk (checks_done facts w) (R w)
+  checks-done-owe facts w = announcing.checks-done-owe R telling facts w
+
+  pub tests-run-owe : (run : Option RunTest) (w : TurnState State) → IfOk (tests_run run w) (R w)
+  tests-run-owe run w = announcing.tests-run-owe R telling run w
 
   -- ---- files that changed
 
@@ -167,14 +223,26 @@ module _ (R : TurnState State → TurnState State → Type 0) (owed : Saying R) 
   noted-owes true path w = logged-owes UnknownSave path w
   noted-owes false path w = none-owes w
 
-  pub saved-owes : (o : Result (List ℕ) UrlFault) (uri : List ℕ) (w : TurnState State) → R w (saved_at o uri w)
-  unfolding saved_at
-  saved-owes (Err fault) uri w = logged-owes _ uri w
-  saved-owes (Ok path) uri w =
+  saved-file-owes : (path : List ℕ) (w : TurnState State) → R w (saved_file path w)
+  saved-file-owes path w =
       let noted : TurnState State = save_noted (is_unknown w.state.files.ids path) path w in
       owed.on w noted _ (noted-owes (is_unknown w.state.files.ids path) path w)
       (owed.runs noted (path_saved w.state.client.settings w.state.files path noted.state.workspaces)
       (save-runs noted.state.desk.turns w.state.client.settings w.state.files path noted.state.workspaces))
+
+  pub saved-owes : (o : Result (List ℕ) UrlFault) (uri : List ℕ) (w : TurnState State) → IfOk (saved_at o uri w) (R w)
+  unfolding saved_at
+  saved-owes (Err fault) uri w =
+      let v : TurnState State = logged BadPath uri w in
+      behind-owes w v (checks_restarted_if (checks_all_on_save w.state.client.settings) v) (logged-owes BadPath uri w)
+      (restarted_if-owes (checks_all_on_save w.state.client.settings) v)
+  saved-owes (Ok path) uri w =
+      let checks : Bool = checks_on_save w.state.client.settings w.state.files.host.world.roots path in
+      behind-owes w (saved_file path w) (file_checked_if checks path (saved_file path w)) (saved-file-owes path w)
+      (checked_if-owes checks path (saved_file path w))
+
+  pub checks-run-owe : (uri : Option (List ℕ)) (w : TurnState State) → IfOk (checks_run uri w) (R w)
+  checks-run-owe uri w = announcing.checks-run-owe R telling uri w
 
   file-owes : MayReread R → (url : List ℕ) (o : Result (List ℕ) UrlFault) (w : TurnState State) → R w (file_changed url o w)
   unfolding file_changed
@@ -192,17 +260,8 @@ module _ (R : TurnState State → TurnState State → Type 0) (owed : Saying R) 
 
   -- ---- what is told
 
-  refreshed-owes : (can : Capabilities) (w : TurnState State) → IfOk (client_refreshed can w) (R w)
-  unfolding client_refreshed
-  refreshed-owes can w =
-      owes-then (asked_if can.semantic_tokens_refresh SemanticTokensRefresh w) _ w (asked_if-owes can.semantic_tokens_refresh SemanticTokensRefresh w)
-      (λ v. owes-then (asked_if can.code_lens_refresh CodeLensRefresh v) _ v (asked_if-owes can.code_lens_refresh CodeLensRefresh v)
-      (λ u. owes-then (asked_if can.inlay_hints_refresh InlayHintRefresh u) _ u (asked_if-owes can.inlay_hints_refresh InlayHintRefresh u)
-      (asked_if-owes can.diagnostics_refresh DiagnosticRefresh)))
-
   pub refreshes-owe : (facts : FactsBefore) (w : TurnState State) → IfOk (refreshes_done facts w) (R w)
-  unfolding refreshes_done
-  refreshes-owe facts w = IfOk-if _ _ (Ok w) (R w) (refreshed-owes w.state.client.settings.capabilities w) (none-owes w)
+  refreshes-owe facts w = announcing.refreshes-owe R telling facts w
 
   published-owes : (path : Option (List ℕ)) (file : FileId) (w : TurnState State) → R w (published_at path file w)
   unfolding published_at
@@ -225,16 +284,10 @@ module _ (R : TurnState State → TurnState State → Type 0) (owed : Saying R) 
       let v : TurnState State = at_board (after_act Takes) w in
       owed.on w v _ (owed.board w (after_act Takes w.state.board)) (files-published-owe (taken w.state.board.marked) v)
 
-  shown-owes : (button : Bool) (text : Option (List ℕ × MessageKind)) (w : TurnState State) → IfOk (text_shown button text w) (R w)
-  unfolding text_shown
-  shown-owes button None w = none-owes w
-  shown-owes true (Some text) w = asking-owes (ShowMessageRequest text.0 text.1) OpenLogs w
-  shown-owes false (Some text) w = notified-owes (ShowMessage text.0 text.1) w
-
   pub status-owes : (w : TurnState State) → IfOk (status_done w) (R w)
   unfolding status_done status_kept status_changed status_told
   status-owes w =
-      let status : Status = status_now w.state.client w.state.files w.state.workspaces in
+      let status : Status = status_now w.state.client w.state.files w.state.workspaces w.state.activities.checks in
       owes-then (status_changed status w) _ w
       (IfOk-if (is_same_status w.state.status status) (Ok w) (status_told status w) (R w) (none-owes w)
       (IfOk-if (takes_status w.state.client.settings) _ _ (R w) (notified-owes (status_message status) w)
@@ -251,13 +304,14 @@ module _ (R : TurnState State → TurnState State → Type 0) (owed : Saying R) 
   pub switch-followed-owes : MayRenew R → (follows : Follows) (w : TurnState State) → IfOk (switch_followed follows w) (R w)
   unfolding switch_followed watchers_registered
   switch-followed-owes renews Nothing w = none-owes w
-  switch-followed-owes renews CratesAnew w = none-owes w
+  switch-followed-owes renews CratesAnew w = told-owe graph_told w
   switch-followed-owes renews (Wait msrv) w = warned-owes msrv w
   switch-followed-owes renews (GoOn msrv version initial) w =
       let v : TurnState State = warned msrv w in
-      IfOk-weaker (and_then (watchers_registered v) (λ u. Ok (roots_renewed (loader_set version u)))) (R v) (R w)
-      (owes-then (watchers_registered v) (λ u. Ok (roots_renewed (loader_set version u))) v (asked_if-owes _ _ v) (renews version))
-      (λ x p. owed.on w v x (warned-owes msrv w) p)
+      let next : TurnState State → Result (TurnState State) Counter = λ u. tellings_told graph_told (roots_renewed (loader_set version u)) in
+      behind-owes w v (and_then (watchers_registered v) next) (warned-owes msrv w)
+      (owes-then (watchers_registered v) next v (asked_if-owes _ _ v)
+      (λ u. behind-owes u (roots_renewed (loader_set version u)) (next u) (renews version u) (told-owe graph_told (roots_renewed (loader_set version u)))))
 
   -- ---- news of checks
 
@@ -268,21 +322,34 @@ module _ (R : TurnState State → TurnState State → Type 0) (owed : Saying R) 
   found-owes id generation of_package path diagnostic fix (Some (file, Yes)) w = none-owes w
   found-owes id generation of_package path diagnostic fix (Some (file, No)) w = owed.board w _
 
-  check-owes : (message : FlycheckMsg) (w : TurnState State) → R w (check_told message w)
+  check-owes : (message : FlycheckMsg) (w : TurnState State) → IfOk (check_told message w) (R w)
   unfolding check_told
   check-owes (checks.AddDiagnostic id generation of_package path diagnostic fix) w =
       found-owes id generation of_package path diagnostic fix (map.get w.state.files.ids path) w
   check-owes (checks.ClearDiagnostics id of_package older_than) w = owed.board w _
-  check-owes (checks.Progress id progress) w = none-owes w
+  check-owes (checks.Progress id progress) w =
+      checks-announced-owe (progressed w.state.client.settings id progress w.state.activities.checks) w
 
-  checks-owe : (messages : List FlycheckMsg) (w : TurnState State) → R w (checks_told messages w)
+  checks-owe : (messages : List FlycheckMsg) (w : TurnState State) → IfOk (checks_told messages w) (R w)
+  unfolding checks_told
   checks-owe [] w = none-owes w
-  checks-owe (message ∷ messages) w = owed.on w (check_told message w) _ (check-owes message w) (checks-owe messages (check_told message w))
+  checks-owe (message ∷ later) w = owes-then (check_told message w) (checks_told later) w (check-owes message w) (checks-owe later)
 
-  pub news-owe : (news : NewsData) (w : TurnState State) → R w (news_taken news w)
+  checks-heard-owe : (messages : List FlycheckMsg) (w : TurnState State) → IfOk (checks_heard messages w) (R w)
+  unfolding checks_heard
+  checks-heard-owe messages w = owes-then (checks_told messages w) _ w (checks-owe messages w) (asked_if-owes _ DiagnosticRefresh)
+
+  tests-heard-owe : (messages : List TestMsg) (w : TurnState State) → IfOk (tests_heard messages w) (R w)
+  unfolding tests_heard
+  tests-heard-owe [] w = none-owes w
+  tests-heard-owe (message ∷ later) w =
+      owes-then (tests_announced (test_told message w.state.activities.tests) w) (tests_heard later) w
+      (tests-announced-owe (test_told message w.state.activities.tests) w) (tests-heard-owe later)
+
+  pub news-owe : (news : NewsData) (w : TurnState State) → IfOk (news_taken news w) (R w)
   unfolding news_taken
-  news-owe (told_news.Flycheck messages) w = checks-owe messages w
-  news-owe (told_news.TestResult messages) w = none-owes w
+  news-owe (told_news.Flycheck messages) w = checks-heard-owe messages w
+  news-owe (told_news.TestResult messages) w = tests-heard-owe messages w
   news-owe (told_news.DiscoverProject messages) w = none-owes w
 
 -- what the client and the host are told
@@ -306,6 +373,13 @@ speaking = record {
         same-runs w.state.desk.turns w.state.workspaces w.state.workspaces refl;
   };
   board = λ w board. record {
+    tells = tells-none w.out;
+    desk = refl;
+    files = refl;
+    runs =
+        same-runs w.state.desk.turns w.state.workspaces w.state.workspaces refl;
+  };
+  activities = λ w activities. record {
     tells = tells-none w.out;
     desk = refl;
     files = refl;

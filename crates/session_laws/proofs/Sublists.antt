@@ -13,7 +13,7 @@ sublist-append {X} (item ∷ items) all more (before, behind, is, h) =
     (before, behind ++ more, ap (λ (xs : List X). xs ++ more) is ∙ append_assoc before (item ∷ behind) more, sublist-append items behind more h)
 
 -- also where more stands before it
-sublist-behind : {X : Type 0} (items first all : List X) → IsSublist items all → IsSublist items (first ++ all)
+pub sublist-behind : {X : Type 0} (items first all : List X) → IsSublist items all → IsSublist items (first ++ all)
 sublist-behind [] first all h = tt
 sublist-behind {X} (item ∷ items) first all (before, behind, is, h) =
     (first ++ before, behind, ap (λ (xs : List X). first ++ xs) is ∙ sym (append_assoc first before (item ∷ behind)), h)

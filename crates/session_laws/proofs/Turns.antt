@@ -6,6 +6,7 @@ use Rattle.session_port.specs.declared.fault.Counter.{Counter}
 use Rattle.desk.specs.Meaning.{Meaning}
 use Rattle.desk_laws.proofs.Results.{IfOk-and_then, IfOk-weaker, IfOk-within}
 use Rattle.session_model.specs.Machine.{begin_part, begun_fetches, build_part, closing_part, event_part, event_taken, facts_before, fetch_part, fetch_started}
+use Rattle.session_model.specs.Machine.{crates_come, knowing_crates}
 use Rattle.session_model.specs.Machine.{files_done, files_part, in_state, knowing, later_parts, marked_published, prime_part, publish_part, quiet_done, quiet_part, register_part}
 use Rattle.session_model.specs.Machine.{runs_started, saves_registered, some_processed, start_parts, state_in, status_done, status_part, step, switch_done}
 use Rattle.session_model.specs.Machine.{switch_part, turn_closed, turned, Turning, turning, with_state}
@@ -22,7 +23,7 @@ session_in t = record { state = t.state.state; out = t.out }
 
 -- what a turn keeps of its facts
 abbrev pub KeepsFactsBefore : FactsBefore → FactsBefore → Type 0
-KeepsFactsBefore old new = new ≡ record old { processed = new.processed }
+KeepsFactsBefore old new = new ≡ record old { crates = new.crates; processed = new.processed }
 
 -- this holds in a turn that has these facts
 record Going (P : TurnState State → Type 0) (facts : FactsBefore) (t : TurnState Turning) : Type 0 where
@@ -58,6 +59,14 @@ going-behind : (P Q : TurnState State → Type 0) (facts : FactsBefore) (part : 
 going-behind P Q facts part t g does =
     IfOk-within state_in with_state part t (Going Q facts)
     (IfOk-weaker (part (session_in t)) Q _ (does (session_in t) g.here) (λ v q. record { here = q; same = g.same }))
+
+switch-behind : (P Q : TurnState State → Type 0) (facts : FactsBefore) (t : TurnState Turning) → Going P facts t
+    → ((w : TurnState State) → P w → IfOk (switch_done w) Q) → IfOk (switch_part t) (Going Q facts)
+unfolding switch_part
+switch-behind P Q facts t g does =
+    let come : Bool = crates_come t.state.state in
+    IfOk-and_then (in_state switch_done t) (λ v. Ok (knowing_crates come v)) (Going Q facts) (Going Q facts) (going-behind P Q facts switch_done t g does)
+    (λ v h. record { here = h.here; same = ap (λ (f : FactsBefore). record f { crates = come }) h.same })
 
 files-behind : (Q S : TurnState State → Type 0) (facts : FactsBefore) (t : TurnState Turning) → Going Q facts t → ((w : TurnState State) → Q w → IfOk (files_done w) S)
     → IfOk (files_part t) (Going S facts)
@@ -110,7 +119,7 @@ pub turn-ends : (R : TurnState State → TurnState State → Type 0) (parts : Pa
     (P Q S Goal : TurnState State → Type 0)
     → Keeps R S → ((w : TurnState State) → P w → IfOk (switch_done w) Q) → ((w : TurnState State) → Q w → IfOk (files_done w) S)
     → Begins meaning s input P S → Closes S Goal (facts_before (turn_start s)) → IfOk (step meaning input (turn_start s)) Goal
-unfolding step event_part switch_part
+unfolding step event_part
 turn-ends R parts meaning s Start P Q S Goal keeps switches files first closes =
     let t : TurnState Turning = turning (turn_start s) in
     IfOk-and_then (start_parts t) turned (λ v. Goal (session_in v)) Goal
@@ -123,7 +132,7 @@ turn-ends R parts meaning s (Next event) P Q S Goal keeps switches files first c
     (IfOk-and_then (event_part meaning event t) (later_parts (Next event)) (Going P facts) Ends
     (IfOk-within state_in with_state (event_taken meaning event) t (Going P facts)
     (IfOk-weaker (event_taken meaning event (turn_start s)) P _ first (λ v p. record { here = p; same = refl })))
-    (λ t g. IfOk-and_then (switch_part t) _ (Going Q facts) Ends (going-behind P Q facts switch_done t g switches)
+    (λ t g. IfOk-and_then (switch_part t) _ (Going Q facts) Ends (switch-behind P Q facts t g switches)
     (λ t g. IfOk-and_then (files_part t) _ (Going S facts) Ends (files-behind Q S facts t g files)
     (λ t g. later R parts S Goal keeps facts closes event t g))))
     (λ v h. h)

@@ -1,6 +1,11 @@
 -- One walk through all that the machine does in a turn, for any relation between what was before a step and what is behind it.
 use Rattle.std.proofs.Common.{◌≡◌, ℕ, List, [], ◌∷◌, Bool, true, false, refl, ap, ◌∙◌}
 use Rattle.std.specs.Prelude.{◌==◌, Option, None, Some, is_some, Result, Ok, Err, IfOk}
+use Rattle.activities.specs.Checks.{all_cancelled}
+use Rattle.activities.specs.Scanning.{scans_told}
+use Rattle.activities.specs.TestRun.{aborted}
+use Rattle.activities.specs.Work.{job_told}
+use Rattle.activities.specs.declared.telling.Telling.{Telling}
 use Rattle.std.specs.FinMap as map
 use Rattle.docs_vfs.specs.FileUrls.{path_of}
 use Rattle.docs_vfs.specs.declared.file_url.UrlFault.{UrlFault}
@@ -55,12 +60,17 @@ use Rattle.session_model.specs.Fetching.{fetch_kept, folders_told_if, settings_t
 use Rattle.session_model.specs.Hearing.{heard_of, told_by}
 use Rattle.session_model.specs.Loading.{MacroPaths, crates_loaded, load_due, load_kept, load_kind, with_due_load}
 use Rattle.session_model.specs.Machine.{all_resumed, answer_taken, request_taken, at_client, at_desk, at_files, at_workspaces, batched, begun_fetches}
+use Rattle.session_model.specs.Machine.{checks_done, checks_renewed_if, checks_restarted_if, crates_settled_if, loader_brought, request_answered}
+use Rattle.session_model.specs.Machine.{files_changed, tellings_told, tests_run, work_followed}
+use Rattle.session_model.specs.Restarting.{cancelled_under, has_other_checks, restart_checks}
+use Rattle.session_model.specs.Testing.{run_asked_by}
+use Rattle.session_port.specs.Jobs.{fitting_job}
 use Rattle.session_model.specs.Machine.{loader_taken, build_handed_over, build_started, build_taken, document_changed_at, client_in, turn_closed}
 use Rattle.session_model.specs.Machine.{all_asked, at_board, batch_asked, batch_done, came_or_went, document_closed_at}
 use Rattle.session_model.specs.Machine.{quiet_done, refreshes_done}
 use Rattle.session_model.specs.Machine.{turn_counted, crates_arrived, crates_built, desk_in, end_taken, work_taken, facts_before, fetch_handed_over}
 use Rattle.session_model.specs.Machine.{fetch_started}
-use Rattle.session_model.specs.Machine.{fetch_taken, files_done, files_followed, files_in, files_processed, files_processed_if, folders_taken, switch_followed}
+use Rattle.session_model.specs.Machine.{fetch_taken, files_done, files_followed, files_in, files_processed, folders_taken, switch_followed}
 use Rattle.session_model.specs.Machine.{happened, desk_kept, load_handed_over, load_started, load_taken, macros_taken, noticed, document_opened_at, received}
 use Rattle.session_model.specs.Machine.{resumed}
 use Rattle.session_model.specs.Machine.{revised, runs_started, saves_registered, step, switch_done, message_taken, event_taken, timer_set, told, with_client}
@@ -81,6 +91,8 @@ use Rattle.session_laws.proofs.Passing.{Passes, Stays, answered-passes, cancelle
 use Rattle.session_laws.proofs.Passing.{folders-pass, spawned-passes, kept-passes, loaded-passes, message-passes, opened-passes, passes-none, passes-on}
 use Rattle.session_laws.proofs.Passing.{processed-passes, requested-passes}
 use Rattle.session_laws.proofs.Running.{versions_of, begin-runs, fire-runs, folders-runs, renewed-runs, request-runs, settings-runs}
+use Rattle.session_laws.proofs.Saying.{behind-owes, checks-done-owe, checks-run-owe, renewed_if-owes, restarted_if-owes, tests-announced-owe}
+use Rattle.session_laws.proofs.Saying.{tests-run-owe, told-owe}
 use Rattle.session_laws.proofs.Saying.{MayRenew, MayReread, Saying, asked_if-owes, asking-owes, files-followed-owe, logged-owes, logged_if-owes, none-owes}
 use Rattle.session_laws.proofs.Saying.{marked-owe, news-owe, notified-owes, owes-if, owes-then, refreshes-owe, saved-owes, status-owes, switch-followed-owes}
 use Rattle.session_laws.proofs.Saying.{watched-owe}
@@ -126,6 +138,7 @@ by-passing R on keeps = record {
   runs = λ w workspaces same. keeps w _ (record { out = passes-none w.out; versions = same.versions });
   status = λ w status. keeps w _ (record { out = passes-none w.out; versions = refl });
   board = λ w board. keeps w _ (record { out = passes-none w.out; versions = refl });
+  activities = λ w activities. keeps w _ (record { out = passes-none w.out; versions = refl });
 }
 
 -- a step of the files, which enters the world
@@ -200,10 +213,10 @@ module _ (R : TurnState State → TurnState State → Type 0) (owed : Owed R) wh
   spawned-owes : (class : PoolClass) (kind : JobKind) (w : TurnState State) → IfOk (at_desk (handed_over (snapshot_of w.state) class kind) w) (R w)
   spawned-owes class kind w = desk-owes _ w (spawned-passes (snapshot_of w.state) class kind (record { state = w.state.desk; out = w.out }))
 
-  processed_if-owes : (b : Bool) (w : TurnState State) → IfOk (files_processed_if b w) (R w)
-  unfolding files_processed_if
-  processed_if-owes true w = owed.processes w
-  processed_if-owes false w = none w
+  settled_if-owes : (b : Bool) (w : TurnState State) → IfOk (crates_settled_if b w) (R w)
+  unfolding crates_settled_if
+  settled_if-owes true w = two-owe (files_processed w) (checks_renewed_if true) w (owed.processes w) (renewed_if-owes R owed.saying true)
+  settled_if-owes false w = none w
 
   -- ---- notifications
 
@@ -251,12 +264,16 @@ module _ (R : TurnState State → TurnState State → Type 0) (owed : Owed R) wh
   told-owes (notices.DidSave uri) may tells w = saved-owes R owed.saying (path_of uri) uri w
   told-owes notices.DidChangeConfiguration may tells w = asking-owes R owed.saying Configuration Settings w
   told-owes (notices.DidChangeWorkspaceFolders added removed) may tells w = folders-owe (tells refl) added removed w
-  told-owes (notices.DidChangeWatchedFiles urls) may tells w = watched-owe R owed.saying (may refl) map.empty urls w
-  told-owes (notices.CancelProgress token) may tells w = none w
-  told-owes notices.CancelFlycheck may tells w = none w
+  told-owes (notices.DidChangeWatchedFiles urls) may tells w =
+      let v : TurnState State = files_changed map.empty urls w in
+      behind-owes R owed.saying w v (checks_restarted_if (restart_checks w.state.client.settings urls) v)
+      (watched-owe R owed.saying (may refl) map.empty urls w)
+      (restarted_if-owes R owed.saying (restart_checks w.state.client.settings urls) v)
+  told-owes (notices.CancelProgress token) may tells w = told-owe R owed.saying (cancelled_under token w.state.activities.checks) w
+  told-owes notices.CancelFlycheck may tells w = told-owe R owed.saying (all_cancelled w.state.activities.checks) w
   told-owes notices.ClearFlycheck may tells w = owed.saying.board w (after_act ForgetsAll w.state.board)
-  told-owes (notices.RunFlycheck uri) may tells w = none w
-  told-owes notices.AbortRunTest may tells w = none w
+  told-owes (notices.RunFlycheck uri) may tells w = checks-run-owe R owed.saying uri w
+  told-owes notices.AbortRunTest may tells w = tests-announced-owe R owed.saying (aborted w.state.activities.tests) w
 
   heard-owes : (heard : Heard) → MayReread R → (tells_folders (told_by heard) ≡ true → MayTell R) → (method : List ℕ) (w : TurnState State)
       → IfOk (noticed heard method w) (R w)
@@ -268,11 +285,16 @@ module _ (R : TurnState State → TurnState State → Type 0) (owed : Owed R) wh
 
   -- ---- other events
 
-  requested-owes : (meaning : Meaning) (r : Request) (w : TurnState State) → IfOk (request_taken meaning r w) (R w)
-  requested-owes meaning r w =
+  answered-owes : (meaning : Meaning) (r : Request) (w : TurnState State) → IfOk (request_answered meaning r w) (R w)
+  answered-owes meaning r w =
       two-owe (at_desk (requested meaning (scene_of w.state) r) w) _ w
       (desk-owes _ w (requested-passes meaning (scene_of w.state) r (record { state = w.state.desk; out = w.out })))
       (λ v. owed.workspaces v (request_told r w.state.desk v.state.workspaces) (request-runs 0 r w.state.desk v.state.workspaces).versions)
+
+  requested-owes : (meaning : Meaning) (r : Request) (w : TurnState State) → IfOk (request_taken meaning r w) (R w)
+  requested-owes meaning r w =
+      two-owe (tests_run (run_asked_by r w.state.desk) w) (request_answered meaning r) w
+      (tests-run-owe R owed.saying (run_asked_by r w.state.desk) w) (answered-owes meaning r)
 
   answer-owes : MayTell R → (r : Response) (w : TurnState State) → IfOk (answer_taken r w) (R w)
   answer-owes tells r w =
@@ -282,14 +304,22 @@ module _ (R : TurnState State → TurnState State → Type 0) (owed : Owed R) wh
       (tells w (answered r client).state (answered r client).out
       (ap (λ (c : Client). c.settings.settings.parents) (answered-does r client).is ∙ after-parents (follows r.id client.state.asked) r client.state.settings)
       (answered-passes r client)))
-      (λ v. owed.workspaces v (settings_told w.state.client.settings v.state.client.settings v.state.workspaces)
+      (λ v. let told : TurnState State = at_workspaces (settings_told w.state.client.settings v.state.client.settings) v in
+      let other : Bool = has_other_checks w.state.client.settings v.state.client.settings in
+      behind-owes R owed.saying v told (checks_renewed_if other told)
+      (owed.workspaces v (settings_told w.state.client.settings v.state.client.settings v.state.workspaces)
       (settings-runs 0 w.state.client.settings v.state.client.settings v.state.workspaces).versions)
+      (renewed_if-owes R owed.saying other told))
 
-  brought-owes : (messages : List LoaderMsg) (w : TurnState State) → IfOk (loader_taken messages w) (R w)
+  brought-owes : (messages : List LoaderMsg) (w : TurnState State) → IfOk (loader_brought messages w) (R w)
   brought-owes messages w =
       two-owe (at_files (loaded messages) w) _ w (files-owe _ w (loaded-passes messages (record { state = w.state.files; out = w.out })))
       (λ v. owed.workspaces v (renewed_if (bring_files messages) v.state.desk.turns v.state.workspaces)
       (renewed-runs (bring_files messages) v.state.desk.turns v.state.workspaces).versions)
+
+  loader-owes : (messages : List LoaderMsg) (w : TurnState State) → IfOk (loader_taken messages w) (R w)
+  loader-owes messages w = two-owe (loader_brought messages w) _ w (brought-owes messages w)
+      (told-owe R owed.saying (scans_told w.state.client.settings.root_path messages))
 
   fetch-taken-owes : (found : FetchEnd) (w : TurnState State) → R w (fetch_taken found w)
   unfolding fetch_taken
@@ -321,7 +351,7 @@ module _ (R : TurnState State → TurnState State → Type 0) (owed : Owed R) wh
 
   load-owes : (told : LoadEnd) (w : TurnState State) → IfOk (load_taken told w) (R w)
   unfolding load_taken
-  load-owes told w = two-owe (macros_taken told w) _ w (macros-owe told w) (λ v. processed_if-owes (is_some (crates_loaded told w.state.workspaces)) v)
+  load-owes told w = two-owe (macros_taken told w) _ w (macros-owe told w) (λ v. settled_if-owes (is_some (crates_loaded told w.state.workspaces)) v)
 
   work-owes : (end : WorkEnd) (w : TurnState State) → IfOk (work_taken end w) (R w)
   unfolding work_taken
@@ -337,13 +367,17 @@ module _ (R : TurnState State → TurnState State → Type 0) (owed : Owed R) wh
   end-owes None w = none w
   end-owes (Some end) w = work-owes end w
 
+  followed-owes : (end : Option WorkEnd) (told : List Telling) (w : TurnState State) → IfOk (work_followed end told w) (R w)
+  unfolding work_followed
+  followed-owes end told w = two-owe (end_taken end w) (tellings_told told) w (end-owes end w) (told-owe R owed.saying told)
+
   taken-owes : (meaning : Meaning) (message : TaskMsg) (w : TurnState State) → IfOk (message_taken meaning message w) (R w)
   unfolding message_taken
   taken-owes meaning message w =
       let jobs = w.state.desk.jobs in
       two-owe (at_desk (taken_at_desk meaning (scene_of w.state) message) w) _ w
       (desk-owes _ w (message-passes meaning (scene_of w.state) message (record { state = w.state.desk; out = w.out })))
-      (end-owes (work_ended message jobs))
+      (followed-owes (work_ended message jobs) (job_told message.body (fitting_job message jobs)))
 
   batch-owes : (meaning : Meaning) (batch : List TaskMsg) (w : TurnState State) → IfOk (batched meaning batch w) (R w)
   batch-owes meaning [] w = none w
@@ -365,7 +399,7 @@ module _ (R : TurnState State → TurnState State → Type 0) (owed : Owed R) wh
   happened-owes meaning (Lsp (NotificationMessage n)) may tells w = heard-owes (heard_of n) (may refl) tells n.method w
   happened-owes meaning (Lsp (ResponseMessage r)) may tells w = answer-owes (tells refl) r w
   happened-owes meaning (Task batch) may tells w = batch-owes meaning batch w
-  happened-owes meaning (Vfs messages) may tells w = brought-owes messages w
+  happened-owes meaning (Vfs messages) may tells w = loader-owes messages w
   happened-owes meaning (Deferred tasks) may tells w = all-resumed-owe tasks w
   happened-owes meaning (News news) may tells w = news-owe R owed.saying news w
   happened-owes meaning (Timer ticket) may tells w = owed.workspaces w (with_fetches (fire ticket) w.state.workspaces)
@@ -482,8 +516,9 @@ module _ (R : TurnState State → TurnState State → Type 0) (owed : Owed R) wh
   quiet-owes : (input : Input) (facts : FactsBefore) (w : TurnState State) → IfOk (quiet_done input facts w) (R w)
   unfolding quiet_done
   quiet-owes input facts w =
-      two-owe (refreshes_done facts w) (batch_done (came_or_went input) facts) w (refreshes-owe R owed.saying facts w)
-      (batch-done-owes (came_or_went input) facts)
+      two-owe (checks_done facts w) _ w (checks-done-owe R owed.saying facts w)
+      (λ v. two-owe (refreshes_done facts v) (batch_done (came_or_went input) facts) v (refreshes-owe R owed.saying facts v)
+      (batch-done-owes (came_or_went input) facts))
 
   -- ---- whole turns
 

@@ -12,7 +12,7 @@ use Rattle.session_port.specs.declared.fault.Counter.TheVariants.{Outgoing, Revi
 use Rattle.desk.specs.Meaning.{Meaning}
 use Rattle.session_model.specs.Course.{Course, Stop as CourseStop, takes, stops, waits, exit, client_gone}
 use Rattle.session_model.specs.Course.{bad_frame, bad_message, bytes_brought, session_course}
-use Rattle.session_model.specs.Inputs.{batch_of, file_count, turns_after}
+use Rattle.session_model.specs.Inputs.{batch_of, file_count, message_count, turns_after}
 use Rattle.session_model.specs.Machine.{step}
 use Rattle.session_model.specs.OwnJobs.{own_jobs}
 use Rattle.session_model.specs.Places.{Place, place_of_turns}
@@ -69,13 +69,14 @@ given_at place = record {
 }
 
 -- those that a turn may need. The start has no number and makes no switch. Jobs are those of the row and the session's
--- own. The client may be asked for its settings, to watch files, to ask anew for four things that it shows, and for a
--- button. The world may change for each message of a batch, for a switch and for the files
+-- own. The client may be asked for its settings or to ask anew for what is wrong in files, to watch files, to show work
+-- for each message and for crate data, to ask anew for four things that it shows, and for a button. The world may
+-- change for each message of a batch, for a switch and for the files
 abbrev pub needs_of : Meaning → Input → Place → Numbers
 needs_of meaning input place = record {
   turns = turns_after input 0;
   jobs = length (turn_row meaning input place).jobs + length (own_jobs meaning input place.rest);
-  requests = 7;
+  requests = message_count input + 8;
   revisions = length (batch_of input) + 2;
   files = file_count input;
   versions = turns_after input 0;

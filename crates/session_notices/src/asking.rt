@@ -8,6 +8,7 @@ use crate::causes::{tell_folders_if, tell_settings};
 use lsp_frame::Response;
 use notify::Outgo;
 use plain::{Items, Text};
+use session_activities::renew_checks_if;
 use session_model::{ReqHandler, TurnError};
 use session_port::TurnOut;
 use session_store::{Store, goes_by_folders};
@@ -27,7 +28,7 @@ fn take_answer(store: &mut Store, response: Response, out: &mut TurnOut) -> Resu
     store.client.complete(response, out)
 }
 
-/// The client answers what it was asked. Other settings than before ask for a fetch. That no request has the answer's id
+/// The client answers what it was asked. Other settings than before ask for a fetch, or for the checks to be set anew. That no request has the answer's id
 /// is logged. After an `Err` the state is poisoned.
 pub fn complete_request(
     store: &mut Store,
@@ -38,13 +39,13 @@ pub fn complete_request(
 {
     let before = Arc::try_clone(store.client.settings())?;
     take_answer(store, response, out)?;
-    tell_settings(
+    let other_checks = tell_settings(
         store.alloc,
         &before,
         store.client.settings(),
         &mut store.workspaces,
     )?;
-    Ok(())
+    renew_checks_if(store, other_checks, out)
 }
 
 // The folders of the client's workspaces change, in what is agreed with it.

@@ -1,6 +1,7 @@
 // What the client says that asks for a fetch.
-ghost use Rattle.std.specs.Prelude.{◌≡◌, OnOk};
+ghost use Rattle.std.specs.Prelude.{◌≡◌, IfOk, OnOk};
 ghost use Rattle.session_model.specs.Fetching.{fetch_asked, fetch_caused, folders_told_if, settings_told};
+ghost use Rattle.session_model.specs.Restarting.{has_other_checks};
 
 use change_effects::{FetchCause, update_of};
 use plain::Text;
@@ -31,17 +32,20 @@ fn tell_cause(
     Ok(())
 }
 
-// The settings were the old ones, and are the new ones. Others ask for a fetch.
+// The settings were the old ones, and are the new ones. Others ask for a fetch. Answers whether they ask for the checks to
+// be set anew.
 pub(crate) fn tell_settings(
     alloc: Global,
     old: &Config,
     new: &Config,
     workspaces: &mut Workspaces,
-) -> Result<(), AllocError>
-    ensures { OnOk result (workspaces.new ≡ settings_told old.now new.now workspaces.old) }
+) -> Result<bool, AllocError>
+    ensures after { OnOk result (workspaces.new ≡ settings_told old.now new.now workspaces.old) }
+    ensures checks { IfOk result (λ checks. checks ≡ has_other_checks old.now new.now) }
 {
     let update = update_of(alloc, old, new)?;
-    tell_cause(alloc, update.fetch_cause(), workspaces)
+    tell_cause(alloc, update.fetch_cause(), workspaces)?;
+    Ok(update.checks)
 }
 
 // The client's folders have changed, and say what the workspaces are where this flag is set.

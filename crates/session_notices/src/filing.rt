@@ -4,15 +4,17 @@ ghost use Rattle.docs_vfs.specs.FileUrls.{path_of};
 ghost use Rattle.session_port.specs.Refines.{Refines, RefinesTotal};
 ghost use Rattle.session_model.specs.FilesFolds.{changed_files, has_changed};
 ghost use Rattle.session_model.specs.FilesSteps.{changed_document, closed_document, loaded, opened_document, processed};
-ghost use Rattle.session_model.specs.Machine.{at_files, loader_taken, document_changed_at, document_closed_at, files_done, files_followed, files_processed, document_opened_at, some_processed};
+ghost use Rattle.session_model.specs.Machine.{at_files, loader_brought, loader_taken, document_changed_at, document_closed_at, files_done, files_followed, files_processed, document_opened_at, some_processed};
 ghost use Rattle.session_model.specs.State.{columns_in, excludes_in};
 ghost use Rattle.session_model.specs.Timing.{bring_files, brings_files};
 
 use crate::answering::answering;
 use crate::timing::{do_effects, effects_for, renew_timer_if};
+use activities::scans_told;
 use docs_vfs::{ChangedFile, VfsPath, path_named};
 use notify::{DidChange, DidOpen};
 use plain::{Items, Text};
+use session_activities::tell_all;
 use session_diagnostics::{clear_deleted, clear_file};
 use session_model::TurnError;
 use session_port::{LoaderMsg, LogCode, TurnOut};
@@ -130,7 +132,17 @@ fn load(store: &mut Store, messages: Items<LoaderMsg>, out: &mut TurnOut) -> Res
     store.files.load(messages, out)
 }
 
-/// What a loader brings. Where it brings files, a fetch that waits gets a new timer.
+// What a loader brings. Where it brings files, a fetch that waits gets a new timer.
+fn bring(store: &mut Store, messages: Items<LoaderMsg>, out: &mut TurnOut) -> Result<(), TurnError>
+    ensures { Refines result (loader_brought messages (record { state = store.old; out = out.old })) store.new out.new }
+{
+    let brings = bring_files(messages.as_slice());
+    load(store, messages, out)?;
+    renew_timer_if(&mut store.workspaces, brings, store.desk.turns());
+    Ok(())
+}
+
+/// What a loader brings, and how far it is, which is told.
 pub fn on_loader(
     store: &mut Store,
     messages: Items<LoaderMsg>,
@@ -138,10 +150,10 @@ pub fn on_loader(
 ) -> Result<(), TurnError>
     ensures { Refines result (loader_taken messages (record { state = store.old; out = out.old })) store.new out.new }
 {
-    let brings = bring_files(messages.as_slice());
-    load(store, messages, out)?;
-    renew_timer_if(&mut store.workspaces, brings, store.desk.turns());
-    Ok(())
+    let root = store.client.settings().root_path();
+    let told = scans_told(store.alloc, root, messages.as_slice())?;
+    bring(store, messages, out)?;
+    tell_all(store, told, out)
 }
 
 // What has changed goes into the world, and with files that came or went the source roots. Answers the files that have

@@ -5,6 +5,7 @@
 mod answering;
 mod asking;
 mod causes;
+mod checking;
 mod filing;
 mod hearing;
 mod notifications;

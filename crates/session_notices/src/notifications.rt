@@ -9,13 +9,15 @@ ghost use Rattle.session_model.specs.Machine.{at_desk, noticed, told};
 
 use crate::answering::answering;
 use crate::asking::{ask_for_settings, on_folders};
+use crate::checking::run_checks;
 use crate::filing::{on_change, on_close, on_open};
 use crate::hearing::heard_of;
 use crate::saving::on_save;
-use crate::watching::change_files;
+use crate::watching::on_changes;
 use lsp_frame::{Notification, RequestId};
 use notify::Notice;
 use plain::Text;
+use session_activities::{abort_tests, cancel_check, cancel_checks};
 use session_model::{Heard, TurnError};
 use session_port::{LogCode, TurnOut};
 use session_store::{Store, log};
@@ -46,16 +48,16 @@ fn on_notice(store: &mut Store, notice: Notice, out: &mut TurnOut) -> Result<boo
             answering(on_folders(store, added, removed, out), false)
         }
         Notice::DidChangeWatchedFiles { changes } => {
-            answering(change_files(store.alloc, changes, out), false)
+            answering(on_changes(store, changes, out), false)
         }
         Notice::ClearFlycheck => {
             store.board.clear_check_all()?;
             Ok(false)
         }
-        Notice::CancelProgress(_)
-        | Notice::CancelFlycheck
-        | Notice::RunFlycheck { .. }
-        | Notice::AbortRunTest => Ok(false),
+        Notice::CancelProgress(token) => answering(cancel_check(store, &token, out), false),
+        Notice::CancelFlycheck => answering(cancel_checks(store, out), false),
+        Notice::RunFlycheck { uri } => answering(run_checks(store, uri, out), false),
+        Notice::AbortRunTest => answering(abort_tests(store, out), false),
     }
 }
 

@@ -3,8 +3,11 @@ ghost use Rattle.std.specs.Prelude.{◌≡◌, ◌++◌, IfOk, OnOk};
 ghost use Rattle.docs_vfs.specs.FileUrls.{path_of};
 ghost use Rattle.docs_vfs.specs.declared.file_kinds.ChangeKind.TheVariants.{Modify as Modified};
 ghost use Rattle.reload.specs.Refresh.{refreshes};
-ghost use Rattle.session_port.specs.Refines.{RefinesTotal};
-ghost use Rattle.session_model.specs.Machine.{save_noted, saved_at, saved_file};
+ghost use Rattle.session_port.specs.Refines.{Refines, RefinesTotal};
+ghost use Rattle.session_port.specs.TurnState.{logged};
+ghost use Rattle.session_port.specs.declared.command.LogCode.TheVariants.{BadPath};
+ghost use Rattle.session_model.specs.Machine.{checks_restarted_if, file_checked_if, save_noted, saved_at, saved_file};
+ghost use Rattle.session_model.specs.Restarting.{checks_all_on_save, checks_on_save};
 ghost use Rattle.session_model.specs.Saving.{asked_by_save, builds_on_save, fetch_saved, is_detached, is_detached_at, is_detached_file, is_manifest, path_saved, rebuilt_on, save_cause, settings_root};
 ghost use Rattle.session_model.specs.State.{State, watched_names};
 
@@ -13,9 +16,12 @@ use plain::Text;
 use project_model::{ProjectWorkspace, WorkspaceKind};
 use ra_config::Config;
 use reload::should_refresh_for_change;
+use session_activities::{check_file_if, restart_checks_if};
 use session_model::{SessionFiles, TurnError};
 use session_port::{LogCode, TurnOut};
-use session_store::{Store, is_loaded_file, is_unknown_file, log, watched_names};
+use session_store::{
+    Store, checks_all_on_save, is_loaded_file, is_unknown_file, log, watched_names,
+};
 use std::alloc::{AllocError, Global};
 use workspaces::{FetchRequest, Workspaces};
 
@@ -193,13 +199,38 @@ fn save(store: &mut Store, path: VfsPath, out: &mut TurnOut) -> Result<(), TurnE
     Ok(())
 }
 
-// A document is saved at the path of its URL. Checks are not run yet.
+// Whether a saved file is checked, by the root at which its settings are read.
+fn checks_on_save(settings: &Config, roots: &SourceRoots, path: &VfsPath) -> bool
+    ensures { result ≡ checks_on_save settings.now roots.now path.now }
+{
+    settings.check_on_save(settings_root(roots, path))
+}
+
+// A file was saved, and is checked where the settings say so.
+fn save_and_check(store: &mut Store, path: VfsPath, out: &mut TurnOut) -> Result<(), TurnError>
+    ensures { Refines result (file_checked_if (checks_on_save store.old.client.settings store.old.files.host.world.roots path) path (saved_file path (record { state = store.old; out = out.old }))) store.new out.new }
+{
+    let checks = checks_on_save(store.client.settings(), store.files.roots(), &path);
+    save(store, path.clone()?, out)?;
+    check_file_if(store, checks, path, out)
+}
+
+// The URL of a saved document names no path: all checks restart where the settings say so.
+fn save_nowhere(store: &mut Store, uri: Text, out: &mut TurnOut) -> Result<(), TurnError>
+    ensures { Refines result (checks_restarted_if (checks_all_on_save store.old.client.settings) (logged BadPath uri (record { state = store.old; out = out.old }))) store.new out.new }
+{
+    let wanted = checks_all_on_save(store.client.settings());
+    log(LogCode::BadPath, uri, out)?;
+    restart_checks_if(store, wanted, out)
+}
+
+// A document is saved at the path of its URL.
 #[tactic(auto, unfolding(session_model::specs::Machine::saved_at))]
 pub(crate) fn on_save(store: &mut Store, uri: Text, out: &mut TurnOut) -> Result<(), TurnError>
-    ensures { RefinesTotal result (saved_at (path_of uri) uri (record { state = store.old; out = out.old })) store.new out.new }
+    ensures { Refines result (saved_at (path_of uri) uri (record { state = store.old; out = out.old })) store.new out.new }
 {
     match path_named(store.alloc, uri.as_str())? {
-        Some(path) => save(store, path, out),
-        None => log(LogCode::BadPath, uri, out),
+        Some(path) => save_and_check(store, path, out),
+        None => save_nowhere(store, uri, out),
     }
 }

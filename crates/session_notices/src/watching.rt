@@ -1,15 +1,18 @@
 // Files that the client watches.
 ghost use Rattle.std.specs.FinMap as map;
 ghost use Rattle.docs_vfs.specs.FileUrls.{path_of};
-ghost use Rattle.session_port.specs.Refines.{RefinesTotal};
-ghost use Rattle.session_model.specs.Machine.{file_changed, files_changed};
+ghost use Rattle.session_port.specs.Refines.{Refines, RefinesTotal};
+ghost use Rattle.session_model.specs.Machine.{checks_restarted_if, file_changed, files_changed};
+ghost use Rattle.session_model.specs.Restarting.{restart_checks};
 ghost use Rattle.session_model.specs.State.{State};
 
+use crate::checking::restart_checks;
 use docs_vfs::path_named;
 use plain::{ByText, Items, Text};
+use session_activities::restart_checks_if;
 use session_model::TurnError;
 use session_port::{Command, LogCode, TurnOut};
-use session_store::{log, order};
+use session_store::{Store, log, order};
 use std::alloc::Global;
 
 // The file of a URL is to be read anew.
@@ -25,7 +28,7 @@ fn change_file(alloc: Global, url: Text, out: &mut TurnOut) -> Result<(), TurnEr
 
 // The files of URLs are to be read anew, each once.
 #[tactic(auto, unfolding(session_model::specs::Machine::files_changed))]
-pub(crate) fn change_files(
+fn change_files(
     alloc: Global,
     urls: Items<Text>,
     out: &mut TurnOut,
@@ -40,4 +43,17 @@ pub(crate) fn change_files(
         }
     }
     Ok(())
+}
+
+// Files that the client watches have changed. Where one of them lies outside the workspaces' folders, checks may restart.
+pub(crate) fn on_changes(
+    store: &mut Store,
+    urls: Items<Text>,
+    out: &mut TurnOut,
+) -> Result<(), TurnError>
+    ensures { Refines result (checks_restarted_if (restart_checks store.old.client.settings urls) (files_changed map.empty urls (record { state = store.old; out = out.old }))) store.new out.new }
+{
+    let wanted = restart_checks(store.alloc, store.client.settings(), &urls)?;
+    change_files(store.alloc, urls, out)?;
+    restart_checks_if(store, wanted, out)
 }

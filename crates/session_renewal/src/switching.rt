@@ -3,17 +3,20 @@ ghost use Rattle.std.specs.Prelude.{◌≡◌, ◌⊎◌, None, Some, Ok, Err, I
 ghost use Rattle.session_port.specs.Refines.{Refines, RefinesTotal};
 ghost use Rattle.session_port.specs.declared.fault.Counter.TheVariants.{LoaderSettings};
 ghost use Rattle.session_port.specs.declared.fault.TurnError.TheVariants.{Exhausted, NoMemory as OutOfMemory};
-ghost use Rattle.session_model.specs.Machine.{switch_followed, loader_set, roots_renewed, switch_done, warned};
+ghost use Rattle.activities.specs.Work.{graph_told};
+ghost use Rattle.session_model.specs.Machine.{switch_followed, loader_set, roots_renewed, switch_done, tellings_told, crates_come, warned};
 ghost use Rattle.session_model.specs.Sources.{other_parents, sources_now};
 ghost use Rattle.session_model.specs.State.{State};
 ghost use Rattle.session_model.specs.Switching.{switch_by, switch_made};
 
 use crate::crates::{build_crates, builds_crates, follow_crates};
 use crate::registering::register_watchers;
+use activities::graph_told;
 use docs_vfs::SourceRoots;
 use notify::{MessageKind, Outgo};
 use plain::{Items, Text};
 use ra_config::Config;
+use session_activities::tell_all;
 use session_model::{Client, Counter, SessionFiles, TurnError};
 use session_port::{Command, TurnOut};
 use session_store::{Store, builds_scripts, client_watches, discovers, excludes, order};
@@ -87,13 +90,22 @@ fn renew_roots(store: &mut Store, out: &mut TurnOut) -> Result<(), TurnError>
     Ok(())
 }
 
+// It is told that crate data is built.
+fn tell_graph(store: &mut Store, out: &mut TurnOut) -> Result<(), TurnError>
+    ensures { Refines result (tellings_told graph_told (record { state = store.old; out = out.old })) store.new out.new }
+{
+    let told = graph_told(store.alloc)?;
+    tell_all(store, told, out)
+}
+
 // What the user, the client and the host are told behind a switch, and the roots that it renews.
 #[tactic(auto, unfolding(session_model::specs::Machine::switch_followed))]
 fn follow(store: &mut Store, follows: Follows, out: &mut TurnOut) -> Result<(), TurnError>
     ensures { Refines result (switch_followed follows (record { state = store.old; out = out.old })) store.new out.new }
 {
     match follows {
-        Follows::Nothing | Follows::CrateData => Ok(()),
+        Follows::Nothing => Ok(()),
+        Follows::CrateData => tell_graph(store, out),
         Follows::Wait { msrv } => warn(&store.client, msrv, out),
         Follows::GoOn {
             msrv,
@@ -103,7 +115,8 @@ fn follow(store: &mut Store, follows: Follows, out: &mut TurnOut) -> Result<(), 
             warn(&store.client, msrv, out)?;
             register_watchers(store, out)?;
             set_loader(store, loader_version, out)?;
-            renew_roots(store, out)
+            renew_roots(store, out)?;
+            tell_graph(store, out)
         }
     }
 }
@@ -146,10 +159,12 @@ fn make_switch_if_due(
     }
 }
 
-/// The switch that is wanted is made, unless files are loading, and what follows it is done.
+/// The switch that is wanted is made, unless files are loading, and what follows it is done. Answers whether crate data
+/// goes into the world with it.
 #[tactic(auto, unfolding(session_model::specs::Machine::switch_done, session_model::specs::Machine::switch_taken))]
-pub fn switch_workspaces(store: &mut Store, out: &mut TurnOut) -> Result<(), TurnError>
-    ensures { Refines result (switch_done (record { state = store.old; out = out.old })) store.new out.new }
+pub fn switch_workspaces(store: &mut Store, out: &mut TurnOut) -> Result<bool, TurnError>
+    ensures meets { Refines result (switch_done (record { state = store.old; out = out.old })) store.new out.new }
+    ensures crates { IfOk result (λ crates. crates ≡ crates_come store.old) }
 {
     let follows = make_switch_if_due(
         store.alloc,
@@ -159,5 +174,6 @@ pub fn switch_workspaces(store: &mut Store, out: &mut TurnOut) -> Result<(), Tur
     )?;
     let built = builds_crates(store.client.settings(), &follows);
     follow(store, follows, out)?;
-    build_crates(store, built, out)
+    build_crates(store, built, out)?;
+    Ok(built)
 }

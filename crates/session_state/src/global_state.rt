@@ -8,6 +8,7 @@ ghost use Rattle.lsp_frame.specs.Outgoing.{number_limit};
 ghost use Rattle.session_port.specs.Refines.{Refines, RefinesTotal};
 ghost use Rattle.docs_vfs.specs.Files.{path_at};
 ghost use Rattle.session_port.specs.TurnState.{written};
+ghost use Rattle.session_model.specs.ClientProgress.{progress_reported};
 ghost use Rattle.session_model.specs.ClientSteps.{asked_for, notification_of};
 ghost use Rattle.session_model.specs.Meaning.{Meaning, meaning_of};
 ghost use Rattle.session_model.specs.DeskSteps.{responded, cancelled};
@@ -26,7 +27,7 @@ use lsp_frame::{RequestId, Response};
 use notify::Outgo;
 use plain::{NoMemory, Text};
 use ra_config::Config;
-use session_model::{Counters, Event, ReqHandler, TurnError};
+use session_model::{Counters, Event, ReqHandler, TurnError, WorkProgress};
 use session_port::TurnOut;
 use session_store::{Store, is_quiescent};
 use std::alloc::{AllocError, Global};
@@ -150,6 +151,17 @@ impl GlobalState {
         self.store.client.tell(message, out)
     }
 
+    /// Tells the client how far some work is, if it shows progress. After an `Err` the state is poisoned.
+    pub fn report_progress(
+        &mut self,
+        work: WorkProgress,
+        out: &mut TurnOut,
+    ) -> Result<(), TurnError>
+        ensures { Refines result (at_client (progress_reported work) (record { state = self.old; out = out.old })) self.new out.new }
+    {
+        self.store.report_progress(work, out)
+    }
+
     /// Tells the client what is wrong in a file: an empty message as a space.
     pub fn publish_diagnostics(&mut self, file: FileId, out: &mut TurnOut) -> Result<(), TurnError>
         ensures { RefinesTotal result (published_at (path_at self.old.files.table file) file (record { state = self.old; out = out.old })) self.new out.new }
@@ -157,7 +169,7 @@ impl GlobalState {
         session_diagnostics::publish(&self.store, file, out)
     }
 
-    /// The client answers what it was asked. Other settings than before ask for a fetch. That no request has the answer's id
+    /// The client answers what it was asked. Other settings than before ask for a fetch, or for the checks to be set anew. That no request has the answer's id
     /// is logged. After an `Err` the state is poisoned.
     pub fn complete_request(
         &mut self,

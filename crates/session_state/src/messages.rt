@@ -7,15 +7,21 @@ ghost use Rattle.session_model.specs.Building.{is_rebuild, asks_to_rebuild};
 ghost use Rattle.session_model.specs.Diagnosing.{opens_or_closes};
 ghost use Rattle.session_model.specs.Fetching.{is_reload, reloads};
 ghost use Rattle.session_model.specs.Inputs.{notice_in};
-ghost use Rattle.session_model.specs.Machine.{request_taken, batched, end_taken, files_processed_if, load_taken, received, message_taken, work_taken};
+ghost use Rattle.session_model.specs.Machine.{request_answered, request_taken, batched, crates_settled_if, end_taken, load_taken, received, message_taken, work_followed, work_taken};
+ghost use Rattle.session_model.specs.Testing.{run_asked_by, run_of_row};
 ghost use Rattle.session_model.specs.WorkEnds.{IsPlainEnd};
 ghost use Rattle.session_model.specs.declared.input.Event.TheVariants.{Lsp};
 ghost use Rattle.session_model.specs.declared.input.Input.TheVariants.{Next};
 
+use activities::{Telling, job_told};
 use analysis_host::Analysis;
 use lsp_frame::{Message, Request};
-use method_table::{REBUILD_PROC_MACROS, RELOAD_WORKSPACE, RowId, is_unit, row_of};
-use plain::Items;
+use method_table::{
+    REBUILD_PROC_MACROS, RELOAD_WORKSPACE, RowId, RunTest, StateRequest, is_unit, read_state_request,
+    row_of,
+};
+use plain::{Items, Json, NoMemory};
+use session_activities::{renew_checks_if, run_tests, tell_all};
 use session_diagnostics::{take_lists, take_tests};
 use session_model::{Desk, LoadEnd, TurnError, WorkEnd};
 use session_notices::{complete_request, on_notification, process_changes};
@@ -24,6 +30,7 @@ use session_renewal::{
     rebuild_macros_if, reload_if, take_build, take_check, take_fetch, take_macros,
 };
 use session_store::Store;
+use std::alloc::Global;
 
 // Whether this is the row of requests that ask for the workspaces anew.
 fn is_reload(row: Option<RowId>) -> bool
@@ -64,6 +71,55 @@ fn rebuilds(desk: &Desk, request: &Request) -> bool
 }
 
 // A request. One to reload asks for a fetch, and one to rebuild macros for build data.
+fn answer_request<A: Analysis>(
+    store: &mut Store,
+    request: Request,
+    analysis: &A,
+    out: &mut TurnOut,
+) -> Result<(), TurnError>
+    requires { IsAbove store.old.desk.turns store.old.desk.pending }
+    ensures { Refines result (request_answered (meaning_of A.decodes A.answer) request (record { state = store.old; out = out.old })) store.new out.new }
+{
+    let reloads = reloads(&store.desk, &request);
+    let rebuilds = rebuilds(&store.desk, &request);
+    store.gather_fixes()?;
+    store.ask(request, analysis, out)?;
+    reload_if(&mut store.workspaces, reloads)?;
+    rebuild_macros_if(&mut store.workspaces, rebuilds)?;
+    Ok(())
+}
+
+fn run_of_row(
+    alloc: Global,
+    row: Option<RowId>,
+    params: &Json,
+) -> Result<Option<RunTest>, NoMemory>
+    ensures { IfOk result (λ run. run ≡ run_of_row row params.now) }
+{
+    let Some(row) = row else {
+        return Ok(None);
+    };
+    match read_state_request(alloc, row, params)? {
+        Some(StateRequest::RunTest(run)) => Ok(Some(run)),
+        _ => Ok(None),
+    }
+}
+
+// The run of tests that a request asks for, where it asks for one and is taken.
+fn run_asked_by(
+    alloc: Global,
+    request: &Request,
+    desk: &Desk,
+) -> Result<Option<RunTest>, NoMemory>
+    ensures { IfOk result (λ run. run ≡ run_asked_by request.now desk.now) }
+{
+    if !desk.takes(&request.id) {
+        return Ok(None);
+    }
+    run_of_row(alloc, row_of(request.method.as_str()), &request.params)
+}
+
+// A request. Before its answer, one to run tests is done.
 fn on_request<A: Analysis>(
     store: &mut Store,
     request: Request,
@@ -73,13 +129,9 @@ fn on_request<A: Analysis>(
     requires { IsAbove store.old.desk.turns store.old.desk.pending }
     ensures { Refines result (request_taken (meaning_of A.decodes A.answer) request (record { state = store.old; out = out.old })) store.new out.new }
 {
-    let reloads = reloads(&store.desk, &request);
-    let rebuilds = rebuilds(&store.desk, &request);
-    store.gather_fixes()?;
-    store.ask(request, analysis, out)?;
-    reload_if(&mut store.workspaces, reloads)?;
-    rebuild_macros_if(&mut store.workspaces, rebuilds)?;
-    Ok(())
+    let run = run_asked_by(store.alloc, &request, &store.desk)?;
+    run_tests(store, run, out)?;
+    answer_request(store, request, analysis, out)
 }
 
 // A message of the client. Answers whether it opens or closes a document.
@@ -107,24 +159,26 @@ pub(crate) fn on_message<A: Analysis>(
     }
 }
 
-// Where this flag is set, the files are processed.
-#[tactic(auto, unfolding(session_model::specs::Machine::files_processed_if))]
-fn process_if(store: &mut Store, wanted: bool, out: &mut TurnOut) -> Result<(), TurnError>
-    ensures { Refines result (files_processed_if wanted (record { state = store.old; out = out.old })) store.new out.new }
+// Where this flag is set, the files are processed, and the checks are set.
+#[tactic(auto, unfolding(session_model::specs::Machine::crates_settled_if))]
+fn settle_crates_if(store: &mut Store, wanted: bool, out: &mut TurnOut) -> Result<(), TurnError>
+    ensures { Refines result (crates_settled_if wanted (record { state = store.old; out = out.old })) store.new out.new }
 {
-    if wanted {
-        process_changes(store, out)?;
+    if !wanted {
+        return Ok(());
     }
-    Ok(())
+    process_changes(store, out)?;
+    renew_checks_if(store, true, out)
 }
 
-// The end of a load of macros. Behind crate data that comes with them the files are processed, also while some are loading.
+// The end of a load of macros. Behind crate data that comes with them the files are processed, also while some are loading,
+// and the checks are set.
 #[tactic(auto, unfolding(session_model::specs::Machine::load_taken))]
 fn take_load(store: &mut Store, told: LoadEnd, out: &mut TurnOut) -> Result<(), TurnError>
     ensures { Refines result (load_taken told (record { state = store.old; out = out.old })) store.new out.new }
 {
     let came = take_macros(store, told, out)?;
-    process_if(store, came, out)
+    settle_crates_if(store, came, out)
 }
 
 // What a job ends of the session's own work: the workspaces, the board or the client are told.
@@ -164,7 +218,22 @@ fn take_end(store: &mut Store, end: Option<WorkEnd>, out: &mut TurnOut) -> Resul
     }
 }
 
-// A message of a job. What it ends of the session's own work is done.
+// What a message ends of the session's own work is done, and then it is told how far that work is.
+#[tactic(auto, unfolding(session_model::specs::Machine::work_followed))]
+fn follow_work(
+    store: &mut Store,
+    end: Option<WorkEnd>,
+    told: Items<Telling>,
+    out: &mut TurnOut,
+) -> Result<(), TurnError>
+    requires { IfSome end IsPlainEnd }
+    ensures { Refines result (work_followed end told (record { state = store.old; out = out.old })) store.new out.new }
+{
+    take_end(store, end, out)?;
+    tell_all(store, told, out)
+}
+
+// A message of a job.
 #[tactic(auto, unfolding(session_model::specs::Machine::message_taken))]
 fn on_task<A: Analysis>(
     store: &mut Store,
@@ -175,8 +244,9 @@ fn on_task<A: Analysis>(
     ensures { Refines result (message_taken (meaning_of A.decodes A.answer) message (record { state = store.old; out = out.old })) store.new out.new }
 {
     store.gather_fixes()?;
+    let told = job_told(store.alloc, &message.body, store.desk.fitting(&message))?;
     let end = store.bring(message, analysis, out)?;
-    take_end(store, end, out)
+    follow_work(store, end, told, out)
 }
 
 // The messages of a batch, one after another.

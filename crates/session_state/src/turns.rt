@@ -3,20 +3,24 @@ ghost use Rattle.std.specs.Prelude.{◌≡◌, IfOk, OnOk};
 ghost use Rattle.lsp_frame.specs.Pending.{IsAbove};
 ghost use Rattle.session_port.specs.Refines.{Refines, RefinesTotal};
 ghost use Rattle.session_model.specs.Meaning.{Meaning, meaning_of};
-ghost use Rattle.session_model.specs.Machine.{came_or_went, turn_closed, turn_counted, facts_before, happened, desk_kept, revised, step, event_taken};
+ghost use Rattle.session_model.specs.Machine.{came_or_went, checks_done, turn_closed, turn_counted, facts_before, happened, desk_kept, revised, step, event_taken};
+ghost use Rattle.session_model.specs.Restarting.{restart_at_rest};
 ghost use Rattle.session_model.specs.declared.input.Input.TheVariants.{Start, Next};
 
 use crate::messages::{on_batch, on_message};
 use analysis_host::Analysis;
+use ra_config::Config;
+use session_activities::{renew_checks_if, restart_checks_if};
 use session_diagnostics::{publish_marked, start_batch, take_news};
-use session_model::{Event, FactsBefore, TurnError};
+use session_model::{Event, FactsBefore, SessionFiles, TurnError};
 use session_notices::{on_loader, process, set_timer};
 use session_port::{Command, TurnOut};
 use session_renewal::{
     begin_fetches, register_saves, resume_all, start_fetch, start_runs, switch_workspaces,
 };
 use session_status::{refresh, report_status};
-use session_store::{Store, is_quiescent, may_fetch, order};
+use session_store::{Store, checks_all_on_save, is_quiescent, may_fetch, order};
+use workspaces::Workspaces;
 
 // The turn is counted.
 #[tactic(auto, unfolding(session_model::specs::Machine::turn_counted))]
@@ -116,20 +120,52 @@ fn facts(store: &Store, out: &TurnOut) -> FactsBefore
         revision: store.files.revision(),
         ordered: out.commands().len(),
         quiescent: is_quiescent(&store.files, &store.workspaces),
+        crates: false,
         processed: false,
     }
 }
 
-// The facts before a turn, and whether files were processed behind its event.
-fn knowing(before: FactsBefore, processed: bool) -> FactsBefore
-    ensures { result ≡ record before { processed = processed } }
+// The facts before a turn, whether crate data came with its switch, and whether files were processed behind its event.
+fn knowing(before: FactsBefore, crates: bool, processed: bool) -> FactsBefore
+    ensures { result ≡ record before { crates = crates; processed = processed } }
 {
     FactsBefore {
         revision: before.revision,
         ordered: before.ordered,
         quiescent: before.quiescent,
+        crates,
         processed,
     }
+}
+
+// Whether all checks restart, in a session that has come to be quiescent.
+fn restart_at_rest(
+    was_quiescent: bool,
+    settings: &Config,
+    files: &SessionFiles,
+    workspaces: &Workspaces,
+) -> bool
+    ensures { result ≡ restart_at_rest was_quiescent settings.now files.now workspaces.now }
+{
+    !was_quiescent
+        && is_quiescent(files, workspaces)
+        && checks_all_on_save(settings)
+        && !workspaces.is_build_requested()
+}
+
+// The checks of crate data that came with the switch are set; and all restart in a session that has come to be quiescent.
+#[tactic(auto, unfolding(session_model::specs::Machine::checks_done))]
+fn renew_checks(store: &mut Store, facts: FactsBefore, out: &mut TurnOut) -> Result<(), TurnError>
+    ensures { Refines result (checks_done facts (record { state = store.old; out = out.old })) store.new out.new }
+{
+    renew_checks_if(store, facts.crates, out)?;
+    let wanted = restart_at_rest(
+        facts.quiescent,
+        store.client.settings(),
+        &store.files,
+        &store.workspaces,
+    );
+    restart_checks_if(store, wanted, out)
 }
 
 // Turn 0. It uses no number of the turns. After an `Err` the state is poisoned.
@@ -157,9 +193,10 @@ pub(crate) fn handle_event<A: Analysis>(
 {
     let before = facts(store, out);
     let came_or_went = take_in(store, event, analysis, out)?;
-    switch_workspaces(store, out)?;
+    let crates = switch_workspaces(store, out)?;
     let processed = process(store, out)?;
-    let facts = knowing(before, processed);
+    let facts = knowing(before, crates, processed);
+    renew_checks(store, facts, out)?;
     refresh(store, facts, out)?;
     start_batch(store, came_or_went, facts, out)?;
     publish_marked(store, out)?;

@@ -79,7 +79,7 @@ kept : (w : TurnState State) (status : Status) → is_same_status w.state.status
 unfolding status_kept status_changed
 kept w status same = rw same (ap (λ s. Ok (record w { state = with_status s w.state })) (sym ((status_told w.state.status status).0 same)))
 
-pub status_stays : (w : TurnState State) → is_same_status w.state.status (status_now w.state.client w.state.files w.state.workspaces) ≡ true
+pub status_stays : (w : TurnState State) → is_same_status w.state.status (status_now w.state.client w.state.files w.state.workspaces w.state.activities.checks) ≡ true
     → status_done w ≡ Ok w
 unfolding status_done
-status_stays w same = kept w (status_now w.state.client w.state.files w.state.workspaces) same
+status_stays w same = kept w (status_now w.state.client w.state.files w.state.workspaces w.state.activities.checks) same

@@ -1,33 +1,15 @@
 // What the client is asked to ask anew.
 ghost use Rattle.std.specs.Prelude.{◌≡◌};
-ghost use Rattle.notify.specs.Writing.{HoldsPlain};
 ghost use Rattle.session_port.specs.Refines.{Refines};
 ghost use Rattle.session_model.specs.Asking.{is_refresh_due};
-ghost use Rattle.session_model.specs.Machine.{asked_if, client_refreshed, refreshes_done};
+ghost use Rattle.session_model.specs.Machine.{client_refreshed, refreshes_done};
 ghost use Rattle.session_model.specs.Status.{is_quiescent};
 
 use notify::Outgo;
-use session_model::{FactsBefore, ReqHandler, SessionFiles, TurnError};
+use session_model::{FactsBefore, SessionFiles, TurnError};
 use session_port::TurnOut;
 use session_store::{Store, is_quiescent};
 use workspaces::Workspaces;
-
-// The client is asked for this, where the flag is set. Nothing follows its answer.
-#[tactic(auto, unfolding(session_model::specs::Machine::asked_if))]
-fn ask_if(
-    store: &mut Store,
-    wanted: bool,
-    message: Outgo,
-    out: &mut TurnOut,
-) -> Result<(), TurnError>
-    requires { HoldsPlain message }
-    ensures { Refines result (asked_if wanted message (record { state = store.old; out = out.old })) store.new out.new }
-{
-    if wanted {
-        return store.send_request(message, ReqHandler::Ignore, out);
-    }
-    Ok(())
-}
 
 // The client is asked to ask anew for what it shows, for each thing where it can be asked.
 #[tactic(auto, unfolding(session_model::specs::Machine::client_refreshed))]
@@ -39,10 +21,10 @@ fn ask_refreshes(store: &mut Store, out: &mut TurnOut) -> Result<(), TurnError>
     let lenses = settings.code_lens_refresh();
     let hints = settings.inlay_hints_refresh();
     let diagnostics = settings.diagnostics_refresh();
-    ask_if(store, tokens, Outgo::SemanticTokensRefresh, out)?;
-    ask_if(store, lenses, Outgo::CodeLensRefresh, out)?;
-    ask_if(store, hints, Outgo::InlayHintRefresh, out)?;
-    ask_if(store, diagnostics, Outgo::DiagnosticRefresh, out)
+    store.ask_if(tokens, Outgo::SemanticTokensRefresh, out)?;
+    store.ask_if(lenses, Outgo::CodeLensRefresh, out)?;
+    store.ask_if(hints, Outgo::InlayHintRefresh, out)?;
+    store.ask_if(diagnostics, Outgo::DiagnosticRefresh, out)
 }
 
 // Whether the session has come to be quiescent, or is and files were processed behind the event.

@@ -1,18 +1,20 @@
 // The status of the session, and how the client is told of it.
 ghost use Rattle.std.specs.Prelude.{◌≡◌, ◌==◌, length, IfOk};
+ghost use Rattle.std.specs.Option.{option_copied};
 ghost use Rattle.ra_config.specs.Config.{projects_of};
 ghost use Rattle.session_port.specs.Refines.{Refines};
-ghost use Rattle.session_model.specs.Machine.{status_changed, status_done, status_kept, status_told, text_shown};
+ghost use Rattle.session_model.specs.Machine.{status_changed, status_done, status_kept, status_told};
 ghost use Rattle.session_model.specs.State.{linked_of};
 ghost use Rattle.session_model.specs.Status.{facts_known, health_text, lacks_projects, needs_reload, opens_logs, shown_as, shown_of, status_message, status_now};
 
+use activities::Checks;
 use crate::failing::{has_build_error, has_fetch_error};
 use crate::well::is_told;
 use notify::{MessageKind, Outgo};
 use plain::{Items, NoMemory, Text};
 use ra_config::Config;
 use ra_settings::LinkedProject;
-use session_model::{Client, ReqHandler, SessionFiles, TurnError};
+use session_model::{Client, SessionFiles, TurnError};
 use session_port::TurnOut;
 use session_store::{Store, is_quiescent, may_fetch};
 use status::{Health, Status, StatusInput, status_with};
@@ -69,6 +71,16 @@ fn shown_of(status: &Status) -> Result<Option<(Text, MessageKind)>, AllocError>
     }
 }
 
+// A copy of a text, if there is one.
+fn copied_of(text: Option<&Text>) -> Result<Option<Text>, AllocError>
+    ensures { IfOk result (λ copy. copy ≡ option_copied text.entry) }
+{
+    match text {
+        None => Ok(None),
+        Some(text) => Ok(Some(text.clone()?)),
+    }
+}
+
 // Whether there are no projects. Their list is made only where there are no roots, whose manifests are projects where no others are.
 #[tactic(auto, using(crate::proofs::Projects::roots_have_projects))]
 fn has_no_projects(alloc: Global, settings: &Config) -> Result<bool, AllocError>
@@ -102,19 +114,21 @@ fn facts_known(
     client: &Client,
     files: &SessionFiles,
     workspaces: &Workspaces,
+    checks: &Checks,
 ) -> Result<StatusInput, NoMemory>
     ensures { IfOk result (λ facts. record facts { linked = linked_of client.now.settings; workspaces = workspaces.now.present }
-        ≡ facts_known client.now files.now workspaces.now) }
+        ≡ facts_known client.now files.now workspaces.now checks.now) }
 {
     let settings = client.settings();
     let config_errors = client.errors_text()?;
+    let check_error = copied_of(checks.error())?;
     let no_projects = lacks_projects(alloc, settings)?;
     Ok(StatusInput {
         reload_needed: needs_reload(settings, files, workspaces),
         build_deps_changed: workspaces.have_build_deps_changed(),
         build_error: has_build_error(workspaces),
         config_errors,
-        check_error: None,
+        check_error,
         no_projects,
         workspace_error: has_fetch_error(settings, workspaces),
         linked: Items::new(alloc),
@@ -136,10 +150,11 @@ fn status_now(
     client: &Client,
     files: &SessionFiles,
     workspaces: &Workspaces,
+    checks: &Checks,
 ) -> Result<Status, NoMemory>
-    ensures { IfOk result (λ status. status ≡ status_now client.now files.now workspaces.now) }
+    ensures { IfOk result (λ status. status ≡ status_now client.now files.now workspaces.now checks.now) }
 {
-    let facts = facts_known(alloc, client, files, workspaces)?;
+    let facts = facts_known(alloc, client, files, workspaces, checks)?;
     status_with(alloc, &facts, linked_projects(client), workspaces.present())
 }
 
@@ -149,29 +164,6 @@ fn opens_logs(settings: &Config, workspaces: &Workspaces) -> bool
 {
     settings.open_server_logs()
         && (has_build_error(workspaces) || has_fetch_error(settings, workspaces))
-}
-
-// A text is shown; with the button that opens the logs it is a request.
-#[tactic(auto, unfolding(session_model::specs::Machine::text_shown, session_port::specs::TurnState::written))]
-fn show_text(
-    store: &mut Store,
-    button: bool,
-    text: Option<(Text, MessageKind)>,
-    out: &mut TurnOut,
-) -> Result<(), TurnError>
-    ensures { Refines result (text_shown button text (record { state = store.old; out = out.old })) store.new out.new }
-{
-    let Some((message, kind)) = text else {
-        return Ok(());
-    };
-    if button {
-        let asked = Outgo::ShowMessageRequest { message, kind };
-        return store.send_request(asked, ReqHandler::OpenLogs, out);
-    }
-    store
-        .client
-        .tell(Outgo::ShowMessage { message, kind }, out)?;
-    Ok(())
 }
 
 // A client that takes statuses is told this one, and any other is shown its text.
@@ -186,7 +178,7 @@ fn tell_status(store: &mut Store, status: &Status, out: &mut TurnOut) -> Result<
     }
     let button = opens_logs(store.client.settings(), &store.workspaces);
     let text = shown_of(status)?;
-    show_text(store, button, text, out)
+    store.show_text(button, text, out)
 }
 
 // The same, where it is another than the last one.
@@ -220,10 +212,17 @@ pub fn report_status(store: &mut Store, out: &mut TurnOut) -> Result<(), TurnErr
         &store.client,
         &store.files,
         &store.workspaces,
+        &store.activities.checks,
         &store.status,
     )? {
         return Ok(());
     }
-    let status = status_now(store.alloc, &store.client, &store.files, &store.workspaces)?;
+    let status = status_now(
+        store.alloc,
+        &store.client,
+        &store.files,
+        &store.workspaces,
+        &store.activities.checks,
+    )?;
     keep_status(store, status, out)
 }

@@ -7,6 +7,7 @@ ghost use Rattle.client.specs.Texts.{errors_told};
 ghost use Rattle.session_model.specs.Status.{facts_known, has_build_error, has_fetch_error, is_quiescent, lacks_projects, needs_reload, status_now};
 ghost use Rattle.session_status.specs.Well.{IsWell, has_no_error, well_status};
 
+use activities::Checks;
 use crate::failing::{has_build_error, has_fetch_error};
 use crate::telling::{lacks_projects, needs_reload};
 use plain::NoMemory;
@@ -68,17 +69,28 @@ fn is_up_to_date(settings: &Config, files: &SessionFiles, workspaces: &Workspace
     !needs_reload(settings, files, workspaces) && !workspaces.have_build_deps_changed()
 }
 
+// Whether no check has failed.
+fn are_checks_well(checks: &Checks) -> bool
+    ensures { IsTrue result → checks.now.error ≡ None }
+{
+    checks.error().is_none()
+}
+
 // Whether none of the facts of a status is told.
 fn is_well(
     alloc: Global,
     client: &Client,
     files: &SessionFiles,
     workspaces: &Workspaces,
+    checks: &Checks,
 ) -> Result<bool, NoMemory>
-    ensures { IfOk result (λ well. IsTrue well → IsWell (facts_known client.now files.now workspaces.now)) }
+    ensures { IfOk result (λ well. IsTrue well → IsWell (facts_known client.now files.now workspaces.now checks.now)) }
 {
     let settings = client.settings();
-    if !is_up_to_date(settings, files, workspaces) || !are_runs_well(settings, workspaces) {
+    if !is_up_to_date(settings, files, workspaces)
+        || !are_runs_well(settings, workspaces)
+        || !are_checks_well(checks)
+    {
         return Ok(false);
     }
     let settings = are_settings_well(alloc, client)?;
@@ -93,9 +105,10 @@ pub(crate) fn is_told(
     client: &Client,
     files: &SessionFiles,
     workspaces: &Workspaces,
+    checks: &Checks,
     last: &Status,
 ) -> Result<bool, NoMemory>
-    ensures { IfOk result (λ told. IsTrue told → is_same_status last.now (status_now client.now files.now workspaces.now) ≡ true) }
+    ensures { IfOk result (λ told. IsTrue told → is_same_status last.now (status_now client.now files.now workspaces.now checks.now) ≡ true) }
 {
     let well = Status {
         health: Health::Ok,
@@ -105,5 +118,5 @@ pub(crate) fn is_told(
     if !last.is_same(&well) {
         return Ok(false);
     }
-    is_well(alloc, client, files, workspaces)
+    is_well(alloc, client, files, workspaces, checks)
 }

@@ -13,7 +13,7 @@ pub use known::{file_of, is_loaded_file, is_unknown, is_unknown_file};
 pub use orders::{log, log_if, order};
 pub use quiescence::is_quiescent;
 pub use settings::{
-    builds_scripts, client_watches, discovers, excludes, goes_by_folders, loads_macros, may_fetch,
-    watched_names,
+    builds_scripts, checks_all_on_save, checks_saves, checks_workspaces, client_watches, discovers,
+    excludes, goes_by_folders, loads_macros, may_fetch, watched_names,
 };
 pub use state::Store;

@@ -1,5 +1,6 @@
 // What the settings say.
 ghost use Rattle.std.specs.Prelude.{◌≡◌};
+ghost use Rattle.session_model.specs.Restarting.{checks_all_on_save, checks_saves, checks_workspaces};
 ghost use Rattle.session_model.specs.State.{discovers, goes_by_folders, may_fetch, loads_macros, builds_scripts, client_watches, excludes_in, watched_names};
 
 use docs_vfs::VfsPath;
@@ -66,4 +67,25 @@ pub fn watched_names(settings: &Config) -> &[Text]
         None => &[],
         Some(command) => command.files_to_watch.as_slice(),
     }
+}
+
+/// Whether checks are made of whole workspaces.
+pub fn checks_workspaces(settings: &Config) -> bool
+    ensures { result ≡ checks_workspaces settings.now }
+{
+    settings.check_workspace(None)
+}
+
+/// Whether checks are made when files are saved.
+pub fn checks_saves(settings: &Config) -> bool
+    ensures { result ≡ checks_saves settings.now }
+{
+    settings.check_on_save(None)
+}
+
+/// Whether they are made then of whole workspaces.
+pub fn checks_all_on_save(settings: &Config) -> bool
+    ensures { result ≡ checks_all_on_save settings.now }
+{
+    checks_saves(settings) && checks_workspaces(settings)
 }

@@ -11,6 +11,7 @@ ghost use Rattle.session_model.specs.WorkEnds.{IsPlainEnd, work_ended};
 ghost use Rattle.method_table.specs.declared.class.PoolClass.TheVariants.{Latency, Worker};
 
 use crate::now::Now;
+use activities::Activities;
 use analysis_host::{Analysis, GlobalStateSnapshot};
 use docs_vfs::SourceRoots;
 use lsp_frame::Request;
@@ -38,6 +39,8 @@ pub struct Store {
     pub parents: Option<Items<(u32, u32)>>,
     /// What is wrong in files, and of which files the client is to be told.
     pub board: DiagnosticCollection,
+    /// The work that the host does beside its jobs.
+    pub activities: Activities,
     /// The status that was told last.
     pub status: Status,
 }
@@ -53,6 +56,7 @@ impl Drop for Store {
             roots: _,
             parents: _,
             board: _,
+            activities: _,
             status: _,
         } = self;
     }
@@ -90,6 +94,7 @@ fn first_status() -> Status
 }
 
 impl Model for Store {
+    ghost use Rattle.activities.specs.contracts.activities.Activities as activities_of;
     ghost use Rattle.docs_vfs.specs.contracts.file_table.FileTable as files_of;
     ghost use Rattle.session_model.specs.HandlerCode as handler;
     ghost use Rattle.op_board.specs.contracts.board.DiagnosticCollection as board_of;
@@ -101,9 +106,9 @@ impl Model for Store {
 
     ghost Value = { State };
 
-    ghost coded = { state_code handler.the_row.coded files_of.the_row.coded job.the_row.coded workspaces_of.the_row.coded board_of.the_row.coded status_of.the_row.coded };
+    ghost coded = { state_code handler.the_row.coded files_of.the_row.coded job.the_row.coded workspaces_of.the_row.coded board_of.the_row.coded activities_of.the_row.coded status_of.the_row.coded };
 
-    ghost view = { λ g. record { client = g.client; files = g.files; desk = g.desk; workspaces = g.workspaces; sources = record { roots = g.roots; parents = g.parents }; board = g.board; status = g.status } };
+    ghost view = { λ g. record { client = g.client; files = g.files; desk = g.desk; workspaces = g.workspaces; sources = record { roots = g.roots; parents = g.parents }; board = g.board; activities = g.activities; status = g.status } };
 }
 
 impl Store {
@@ -115,6 +120,7 @@ impl Store {
             turns: 0,
             jobs: 0,
             revisions: 0,
+            discoveries: 0,
             outgoing: 0,
             files: 0,
             loader_settings: 0,
@@ -142,6 +148,7 @@ impl Store {
             roots,
             parents: None,
             board: DiagnosticCollection::new(alloc),
+            activities: Activities::new_at(alloc, used.discoveries),
             status: first_status(),
         })
     }

@@ -218,8 +218,8 @@ impl Desk {
         }
     }
 
-    // The job out that a message fits, if it fits one.
-    fn fitting(&self, message: &TaskMsg) -> Option<&Job>
+    /// The job out that a message fits, if it fits one.
+    pub fn fitting(&self, message: &TaskMsg) -> Option<&Job>
         ensures { option_copied result ≡ fitting_job message.now self.now.jobs }
     {
         let job = self.jobs.get(message.job)?;

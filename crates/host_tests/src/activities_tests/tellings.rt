@@ -69,11 +69,13 @@ fn add_shown(alloc: Global, text: &mut String, telling: &Telling) {
         Telling::Begin {
             title,
             token,
+            message,
             percentage,
         } => {
             add(text, "begin ");
             add(text, title.as_str());
             add_some(text, " under ", token);
+            add_some(text, ": ", message);
             add_share(alloc, text, *percentage);
         }
         Telling::Report {

@@ -1,5 +1,6 @@
+// How far some work is.
 ghost use Rattle.std.specs.Prelude.{◌≡◌, ◌≤◌};
-ghost use Rattle.reload.specs.Progress.{hundredths};
+ghost use Rattle.notify.specs.Fraction.{hundredths};
 
 /// A step of a piece of work that is reported.
 #[derive(Clone, Copy, Debug, PartialEq, Eq, PartialOrd, Ord, Hash)]
