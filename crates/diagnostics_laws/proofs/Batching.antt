@@ -10,9 +10,8 @@ use Rattle.lsp_types.specs.Values.{diagnostic_value, list_value}
 use Rattle.lsp_types.specs.declared.diagnostic.Diagnostic.{Diagnostic}
 use Rattle.method_table.specs.declared.class.PoolClass.{PoolClass}
 use Rattle.method_table.specs.declared.class.PoolClass.TheVariants.{Latency, Worker}
-use Rattle.notify.specs.declared.outgo.MessageKind.{MessageKind}
 use Rattle.notify.specs.declared.outgo.Outgo.{Outgo}
-use Rattle.notify.specs.declared.outgo.Outgo.TheVariants.{Publish, ShowMessage, ShowMessageRequest}
+use Rattle.notify.specs.declared.outgo.Outgo.TheVariants.{Publish}
 use Rattle.op_board.specs.Acts.{step as after_act}
 use Rattle.op_board.specs.Acts.Act.{Takes}
 use Rattle.op_board.specs.Board.{Board, diagnostics_of}
@@ -22,10 +21,7 @@ use Rattle.session_port.specs.TurnState.{TurnState, and_then, ordered, written}
 use Rattle.session_port.specs.declared.fault.Counter.{Counter}
 use Rattle.session_port.specs.declared.job.JobKind.{JobKind}
 use Rattle.session_port.specs.declared.job.JobKind.TheVariants.{FetchBuildData}
-use Rattle.client.specs.Client.{Client}
-use Rattle.client.specs.Steps.{asked_for, notification_of}
-use Rattle.client.specs.declared.handler.ReqHandler.{ReqHandler}
-use Rattle.client.specs.declared.handler.ReqHandler.TheVariants.{Ignore, OpenLogs}
+use Rattle.client.specs.Steps.{notification_of}
 use Rattle.desk.specs.Desk.{Desk}
 use Rattle.desk.specs.Steps.{handed_over, jobs_kept}
 use Rattle.desk_laws.proofs.Results.{IfOk-and_then, IfOk-if, IfOk-weaker, IfOk-within}
@@ -40,21 +36,22 @@ use Rattle.session_model.specs.Building.{build_due, with_due_build}
 use Rattle.session_model.specs.Diagnosing.{batch_counted, batch_kinds, is_batch_due, publication, told_diagnostic}
 use Rattle.session_model.specs.Fetching.{with_fetches}
 use Rattle.session_model.specs.Loading.{MacroPaths, load_due, load_kind, with_due_load}
-use Rattle.session_model.specs.Machine.{all_asked, all_published, asked_if, at_board, at_client, at_desk, at_workspaces, batch_asked, batch_done}
+use Rattle.session_model.specs.Machine.{all_asked, all_published, at_board, at_desk, at_workspaces, batch_asked, batch_done}
 use Rattle.session_model.specs.Machine.{begun_fetches, build_handed_over}
-use Rattle.session_model.specs.Machine.{build_started, came_or_went, client_in, desk_in, desk_kept, fetch_handed_over, fetch_started, files_published}
+use Rattle.session_model.specs.Machine.{build_started, came_or_went, desk_in, desk_kept, fetch_handed_over, fetch_started, files_published}
 use Rattle.session_model.specs.Machine.{load_handed_over, load_started}
-use Rattle.session_model.specs.Machine.{marked_published, published_at, quiet_done, refreshes_done, revised, runs_started, saves_registered}
+use Rattle.session_model.specs.Machine.{checks_done, marked_published, published_at, quiet_done, refreshes_done, revised, runs_started, saves_registered}
 use Rattle.session_model.specs.Machine.{status_changed, status_done, status_kept}
-use Rattle.session_model.specs.Machine.{status_told, text_shown, timer_set, turn_closed, with_client, with_desk}
+use Rattle.session_model.specs.Machine.{status_told, text_shown, timer_set, turn_closed, with_desk}
 use Rattle.session_model.specs.State.{State, fetch_kind, snapshot_of}
 use Rattle.session_model.specs.Status.{is_quiescent, opens_logs, shown_of, status_message, status_now, takes_status}
 use Rattle.session_model.specs.declared.facts.FactsBefore.{FactsBefore}
 use Rattle.session_model.specs.declared.input.Input.{Input}
-use Rattle.session_laws.proofs.OwnJobs.{Asks, refreshes-ask}
+use Rattle.session_laws.proofs.Announcing as saying
+use Rattle.session_laws.proofs.Announcing.{Announces, announcing, written-unpublished}
 use Rattle.session_laws.specs.Published.{Published, published_by}
 use Rattle.diagnostics_laws.specs.Shown.{told_list}
-use Rattle.diagnostics_laws.proofs.Sounding.{Goes, asking-goes, refreshes-go, told-append, told-none, told_in}
+use Rattle.diagnostics_laws.proofs.Sounding.{told-append, told_in}
 use Rattle.diagnostics_laws.proofs.SoundingDesk.{DeskStep, spawned-step}
 
 -- ---- what is kept
@@ -88,40 +85,16 @@ spawned-kept class kind w =
     (IfOk-weaker (handed_over (snapshot_of w.state) class kind desk) (DeskStep desk) _ (spawned-step (snapshot_of w.state) class kind desk)
     (λ v d. record { board = refl; files = refl; told = d.1 }))
 
--- the client's part of the session alone
-SameParts : TurnState State → TurnState State → Type 0
-SameParts w v = (v.state.board ≡ w.state.board) × (v.state.files ≡ w.state.files)
+-- something is said that publishes nothing
+announces-keep : (w v : TurnState State) → Announces w v → Kept w v
+announces-keep w v a = record { board = ap (λ (s : State). s.board) a.state; files = ap (λ (s : State). s.files) a.state; told = a.unpublished }
 
-client-same : (w : TurnState State) (r : Result (TurnState Client) Counter)
-    → IfOk r (λ v. SameParts w (let u : TurnState State = record { state = with_client v.state w.state; out = v.out } in u))
-unfolding SameParts
-client-same w (Ok v) = (refl, refl)
-client-same w (Err counter) = tt
-
-asked-kept : (message : Outgo) (handler : ReqHandler) (w : TurnState State) → IfOk (at_client (asked_for message handler) w) (Kept w)
-unfolding SameParts
-asked-kept message handler w =
-    let r = at_client (asked_for message handler) w in
-    let client : TurnState Client = record { state = w.state.client; out = w.out } in
-    let same : IfOk r (SameParts w) = IfOk-within client_in with_client (asked_for message handler)
-    w (SameParts w) (client-same w (asked_for message handler client)) in
-    IfOk-weaker r (λ v. Goes w v × SameParts w v) (Kept w) (both-of r (Goes w) (SameParts w) (asking-goes message handler w) same)
-    (λ v (goes, stays). record { board = stays.0; files = stays.1; told = goes.told })
-
-asked_if-kept : (wanted : Bool) (message : Outgo) (w : TurnState State) → IfOk (asked_if wanted message w) (Kept w)
-unfolding asked_if
-asked_if-kept true message w = asked-kept message Ignore w
-asked_if-kept false message w = kept-none w
+announced-kept : (r : Result (TurnState State) Counter) (w : TurnState State) → IfOk r (Announces w) → IfOk r (Kept w)
+announced-kept r w said = IfOk-weaker r (Announces w) (Kept w) said (announces-keep w)
 
 notified-kept : (message : Outgo) (w : TurnState State) → published_by (notification_of message) ≡ None → Kept w (written (notification_of message) w)
 unfolding written
-notified-kept message w none = record { board = refl; files = refl; told = told-none (notification_of message) w none }
-
-shown-kept : (button : Bool) (text : Option (List ℕ × MessageKind)) (w : TurnState State) → IfOk (text_shown button text w) (Kept w)
-unfolding text_shown
-shown-kept button None w = kept-none w
-shown-kept true (Some text) w = asked-kept (ShowMessageRequest text.0 text.1) OpenLogs w
-shown-kept false (Some text) w = notified-kept (ShowMessage text.0 text.1) w refl
+notified-kept message w none = record { board = refl; files = refl; told = written-unpublished (notification_of message) w none }
 
 -- ---- a batch
 
@@ -157,28 +130,35 @@ done-batched : (input : Input) (facts : FactsBefore) (w : TurnState State)
 unfolding batch_done
 done-batched input facts w = asked-batched (due_in input facts w.state) w
 
--- what is asked of the client before it changes nothing that a batch goes by
-asks-batched : (input : Input) (facts : FactsBefore) (w v u : TurnState State) → Asks w v → told_in v.out ≡ told_in w.out
+-- what is said before it changes nothing that a batch goes by
+said-batched : (input : Input) (facts : FactsBefore) (w v u : TurnState State) → Announces w v
     → IsBatched (due_in input facts v.state) v u → IsBatched (due_in input facts w.state) w u
-asks-batched input facts w v u asks told b =
-    let settings_are : v.state.client.settings ≡ w.state.client.settings = ap (λ (s : State). s.client.settings) asks.state in
-    let board_is : v.state.board ≡ w.state.board = ap (λ (s : State). s.board) asks.state in
-    let due_is : due_in input facts v.state ≡ due_in input facts w.state = ap (due_in input facts) asks.state in
+said-batched input facts w v u said b =
+    let settings_are : v.state.client.settings ≡ w.state.client.settings = ap (λ (s : State). s.client.settings) said.state in
+    let board_is : v.state.board ≡ w.state.board = ap (λ (s : State). s.board) said.state in
+    let due_is : due_in input facts v.state ≡ due_in input facts w.state = ap (due_in input facts) said.state in
     record {
       board = b.board ∙ (λ i. batch_board (due_is i) (settings_are i) (board_is i));
-      files = b.files ∙ ap (λ (s : State). s.files) asks.state;
-      told = b.told ∙ told;
+      files = b.files ∙ ap (λ (s : State). s.files) said.state;
+      told = b.told ∙ said.unpublished;
     }
+
+-- a step that says something, and then one behind which a batch may have been asked for
+said-then : (input : Input) (facts : FactsBefore) (r : Result (TurnState State) Counter) (f : TurnState State → Result (TurnState State) Counter)
+    (w : TurnState State) → IfOk r (Announces w) → ((v : TurnState State) → IfOk (f v) (IsBatched (due_in input facts v.state) v))
+    → IfOk (and_then r f) (IsBatched (due_in input facts w.state) w)
+said-then input facts r f w said next =
+    IfOk-and_then r f (Announces w) (IsBatched (due_in input facts w.state) w) said
+    (λ v a. IfOk-weaker (f v) (IsBatched (due_in input facts v.state) v) (IsBatched (due_in input facts w.state) w) (next v)
+    (λ u b. said-batched input facts w v u a b))
 
 pub quiet-batched : (input : Input) (facts : FactsBefore) (w : TurnState State)
     → IfOk (quiet_done input facts w) (IsBatched (due_in input facts w.state) w)
 unfolding quiet_done
 quiet-batched input facts w =
-    let r = refreshes_done facts w in
-    IfOk-and_then r (batch_done (came_or_went input) facts) (λ v. Asks w v × Goes w v) (IsBatched (due_in input facts w.state) w)
-    (both-of r (Asks w) (Goes w) (refreshes-ask facts w) (refreshes-go facts w))
-    (λ v (asks, goes). IfOk-weaker (batch_done (came_or_went input) facts v) (IsBatched (due_in input facts v.state) v) _
-    (done-batched input facts v) (λ u b. asks-batched input facts w v u asks goes.told b))
+    said-then input facts (checks_done facts w) _ w (saying.checks-done-owe Announces announcing facts w)
+    (λ v. said-then input facts (refreshes_done facts v) (batch_done (came_or_went input) facts) v
+    (saying.refreshes-owe Announces announcing facts v) (done-batched input facts))
 
 -- ---- publishing
 
@@ -289,16 +269,17 @@ runs-kept w = kept-then (build_started w) _ w (build-kept w) (load-kept (build_d
 pub status-kept : (w : TurnState State) → IfOk (status_done w) (Kept w)
 unfolding status_done status_kept status_changed status_told
 status-kept w =
-    let status : Status = status_now w.state.client w.state.files w.state.workspaces in
+    let status : Status = status_now w.state.client w.state.files w.state.workspaces w.state.activities.checks in
     kept-then (status_changed status w) _ w
     (IfOk-if (is_same_status w.state.status status) (Ok w) (status_told status w) (Kept w) (kept-none w)
     (IfOk-if (takes_status w.state.client.settings) _ _ (Kept w) (notified-kept (status_message status) w refl)
-    (shown-kept (opens_logs w.state.client.settings w.state.workspaces) (shown_of status) w)))
+    (announced-kept (text_shown (opens_logs w.state.client.settings w.state.workspaces) (shown_of status) w) w
+    (saying.shown-owes Announces announcing (opens_logs w.state.client.settings w.state.workspaces) (shown_of status) w))))
     (λ v. record { board = refl; files = refl; told = refl })
 
 pub registers-kept : (w : TurnState State) → IfOk (saves_registered w) (Kept w)
 unfolding saves_registered
-registers-kept w = asked_if-kept _ _ w
+registers-kept w = announced-kept (saves_registered w) w (saying.asked_if-owes Announces announcing _ _ w)
 
 pub begun-kept : (w : TurnState State) → IfOk (begun_fetches w) (Kept w)
 unfolding begun_fetches

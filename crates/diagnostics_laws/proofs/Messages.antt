@@ -3,6 +3,12 @@ use Rattle.std.proofs.Common.{◌≡◌, ℕ, ◌≤◌, List, [], ◌∷◌, �
 use Rattle.std.specs.Prelude.{◌&&◌, cond, nat_eq, Option, None, Some, is_some, Result, Ok, Err, IfOk, if◌then◌else◌}
 use Rattle.std.specs.Option.{option_map}
 use Rattle.std.specs.FinMap as map
+use Rattle.activities.specs.Announced.{Announced}
+use Rattle.activities.specs.Checks.{Checks as Checked, all_cancelled, progressed}
+use Rattle.activities.specs.Scanning.{scans_told}
+use Rattle.activities.specs.TestRun.{Tests, aborted}
+use Rattle.activities.specs.Work.{graph_told, job_told}
+use Rattle.activities.specs.declared.telling.Telling.{Telling}
 use Rattle.plain.specs.Texts.{text_cmp}
 use Rattle.docs_vfs.specs.FileUrls.{path_of}
 use Rattle.docs_vfs.specs.Files.{Files, id_by, id_in, path_at}
@@ -20,6 +26,7 @@ use Rattle.lsp_frame.specs.declared.message.Message.TheVariants.{Request as Requ
 use Rattle.lsp_frame.specs.declared.message.Message.TheVariants.{Response as ResponseMessage}
 use Rattle.lsp_types.specs.declared.diagnostic.Diagnostic.{Diagnostic}
 use Rattle.method_table.specs.declared.class.PoolClass.TheVariants.{Worker}
+use Rattle.method_table.specs.declared.request.RunTest.{RunTest}
 use Rattle.op_board.specs.Acts.{Act, gives, step as after_act}
 use Rattle.op_board.specs.Acts.Act.{Adds, Clears, ForgetsAll, Gives}
 use Rattle.op_board.specs.Board.{Board}
@@ -29,12 +36,12 @@ use Rattle.project_model.specs.declared.crates.CrateData.{CrateData}
 use Rattle.serde_json.specs.Data.{Data}
 use Rattle.change_effects.specs.declared.effects.ChangeEffects.{ChangeEffects}
 use Rattle.change_effects.specs.declared.effects.SettingsFile.{SettingsFile}
-use Rattle.session_port.specs.Jobs.{Jobs, after_batch, jobs_after}
+use Rattle.session_port.specs.Jobs.{Jobs, after_batch, fitting_job, jobs_after}
 use Rattle.session_port.specs.TurnState.{TurnState, and_then, logged, ordered, written}
 use Rattle.session_port.specs.declared.command.Command.TheVariants.{Defer, Invalidate}
 use Rattle.session_port.specs.declared.command.DeferredTask.{DeferredTask}
 use Rattle.session_port.specs.declared.command.DeferredTask.TheVariants.{CheckIfIndexed, CheckProcMacroSources}
-use Rattle.session_port.specs.declared.command.LogCode.TheVariants.{BuildError, FetchError, SecondSettingsFile, SettingsError}
+use Rattle.session_port.specs.declared.command.LogCode.TheVariants.{BadPath, BuildError, FetchError, SecondSettingsFile, SettingsError}
 use Rattle.session_port.specs.declared.command.LogCode.TheVariants.{UnknownSave}
 use Rattle.session_port.specs.declared.event.LoaderMsg.{LoaderMsg}
 use Rattle.session_port.specs.declared.event.TaskMsg.{TaskMsg}
@@ -51,7 +58,7 @@ use Rattle.notify.specs.declared.notice.DidChange.{DidChange}
 use Rattle.notify.specs.declared.notice.DidOpen.{DidOpen}
 use Rattle.notify.specs.declared.notice.Notice.{Notice}
 use Rattle.notify.specs.declared.notice.Notice.TheVariants as notices
-use Rattle.notify.specs.declared.outgo.Outgo.TheVariants.{Configuration, OpenLogs as OpenLogsMessage}
+use Rattle.notify.specs.declared.outgo.Outgo.TheVariants.{Configuration, DiagnosticRefresh, OpenLogs as OpenLogsMessage}
 use Rattle.desk.specs.Desk.{Desk}
 use Rattle.desk.specs.Meaning.{Meaning}
 use Rattle.desk.specs.Steps.{cancelled, counted as counted_at_desk, requested, result_taken as taken_at_desk}
@@ -76,22 +83,26 @@ use Rattle.session_model.specs.Hearing.{heard_of}
 use Rattle.session_model.specs.Inputs.{batch_of}
 use Rattle.session_model.specs.Loading.{crates_loaded, load_kept}
 use Rattle.session_model.specs.Machine.{all_resumed, answer_taken, at_board, at_desk, at_files, at_workspaces, batched, build_taken, check_told}
-use Rattle.session_model.specs.Machine.{checks_told}
+use Rattle.session_model.specs.Machine.{checks_announced, checks_heard, checks_renewed_if, checks_restarted_if, checks_run, checks_told}
+use Rattle.session_model.specs.Machine.{crates_settled_if, file_checked_if, loader_brought, request_answered, saved_file, tellings_told}
+use Rattle.session_model.specs.Machine.{tests_announced, tests_heard, tests_run, work_followed}
 use Rattle.session_model.specs.Machine.{crates_arrived, crates_built, desk_in, document_changed_at, document_closed_at, document_opened_at}
 use Rattle.session_model.specs.Machine.{effects_done, end_taken}
 use Rattle.session_model.specs.Machine.{event_taken, fetch_taken, fetch_waits, file_changed, files_changed, files_done, files_followed}
-use Rattle.session_model.specs.Machine.{files_processed, files_processed_if}
+use Rattle.session_model.specs.Machine.{files_processed}
 use Rattle.session_model.specs.Machine.{folders_taken, found_added, further_logged, happened, load_taken, loader_set, loader_taken, macros_taken}
 use Rattle.session_model.specs.Machine.{message_taken, news_taken, noticed}
 use Rattle.session_model.specs.Machine.{received, request_taken, resumed, roots_renewed, save_noted, saved_at, settings_filed, sources_deferred}
 use Rattle.session_model.specs.Machine.{switch_done, switch_followed}
 use Rattle.session_model.specs.Machine.{switch_taken, told, turn_counted, warned, watchers_registered, with_client, with_desk, with_sources}
 use Rattle.session_model.specs.Machine.{work_taken}
+use Rattle.session_model.specs.Restarting.{cancelled_under, checks_all_on_save, checks_on_save, has_other_checks, restart_checks}
 use Rattle.session_model.specs.Saving.{path_saved}
 use Rattle.session_model.specs.Sources.{change_for, client_with, further_files, parents_told}
 use Rattle.session_model.specs.State.{State, columns_in, excludes_in, goes_by_folders, scene_of, snapshot_of}
 use Rattle.session_model.specs.Status.{build_fault, fetch_fault}
 use Rattle.session_model.specs.Switching.{switch_made}
+use Rattle.session_model.specs.Testing.{run_asked_by}
 use Rattle.session_model.specs.Timing.{bring_files, effects_for, fetch_planned, renewed_if}
 use Rattle.session_model.specs.declared.heard.Heard.{Heard}
 use Rattle.session_model.specs.declared.heard.Heard.TheVariants.{Told, Malformed, Unhandled, Silent}
@@ -101,12 +112,14 @@ use Rattle.session_model.specs.declared.input.Input.{Input}
 use Rattle.session_model.specs.declared.input.Input.TheVariants.{Next}
 use Rattle.session_model.specs.declared.input.News.{News as NewsData}
 use Rattle.session_model.specs.declared.input.News.TheVariants as told_news
+use Rattle.session_laws.proofs.Announcing as saying
+use Rattle.session_laws.proofs.Announcing.{Announces, announcing, written-unpublished}
 use Rattle.diagnostics_laws.proofs.KeyedBools.{none-some, some-is}
 use Rattle.diagnostics_laws.proofs.MessagesEnds.{AreKnown, EndFits, JobsFit, ended-fits, gives-fit}
 use Rattle.diagnostics_laws.specs.Batches.{brought_by, brought_past, list_among}
-use Rattle.diagnostics_laws.proofs.Sounding.{AreAmong, Bringing, Goes, GoesBy, acts-one, brings_none, goes-by, left_out, asked_if-goes, asking-goes}
+use Rattle.diagnostics_laws.proofs.Sounding.{AreAmong, Bringing, Goes, GoesBy, acts-one, announced-goes, announces-go, behind-goes, brings_none, goes-by, left_out, asked_if-goes, asking-goes}
 use Rattle.diagnostics_laws.proofs.Sounding.{client-goes, desk-goes, files-goes, goes-generation, goes-if, goes-on, goes-then, itself}
-use Rattle.diagnostics_laws.proofs.Sounding.{logged-goes, logged_if-goes, notified-goes, ordered-goes, still, told-none, told_in, warned-goes}
+use Rattle.diagnostics_laws.proofs.Sounding.{logged-goes, logged_if-goes, notified-goes, ordered-goes, still, told-go, told_in, warned-goes}
 use Rattle.diagnostics_laws.proofs.Sounding.{workspaces-go}
 use Rattle.diagnostics_laws.proofs.SoundingDesk.{DeskStep, EndStep, after-among, cancelled-step, counted-step, requested-step, spawned-step, taken-step}
 use Rattle.diagnostics_laws.proofs.SoundingFiles.{changed-step, closed-step, crates-step, loaded-step, opened-step, processed-step}
@@ -188,13 +201,15 @@ set-goes version w = still w _ refl refl refl refl
 switch-followed-goes : (follows : Follows) (w : TurnState State) → IfOk (switch_followed follows w) (Goes w)
 unfolding switch_followed watchers_registered
 switch-followed-goes Nothing w = itself w
-switch-followed-goes CratesAnew w = itself w
+switch-followed-goes CratesAnew w = told-go graph_told w
 switch-followed-goes (Wait msrv) w = warned-goes msrv w
 switch-followed-goes (GoOn msrv version initial) w =
     let v : TurnState State = warned msrv w in
-    IfOk-weaker (and_then (watchers_registered v) (λ u. Ok (roots_renewed (loader_set version u)))) (Goes v) (Goes w)
-    (goes-then (watchers_registered v) (λ u. Ok (roots_renewed (loader_set version u))) v (asked_if-goes _ _ v) (set-goes version))
-    (λ x p. goes-on w v x (warned-goes msrv w) p)
+    let next : TurnState State → Result (TurnState State) Counter = λ u. tellings_told graph_told (roots_renewed (loader_set version u)) in
+    behind-goes w v (and_then (watchers_registered v) next) (warned-goes msrv w)
+    (goes-then (watchers_registered v) next v (asked_if-goes _ _ v)
+    (λ u. behind-goes u (roots_renewed (loader_set version u)) (next u) (set-goes version u)
+    (told-go graph_told (roots_renewed (loader_set version u)))))
 
 switch-made-goes : (made : Result (Follows × Workspaces) Counter) (w : TurnState State) → IfOk (switch_taken made w) (Goes w)
 unfolding switch_taken
@@ -208,6 +223,14 @@ switch-made-goes (Ok made) w =
 pub switch-goes : (w : TurnState State) → IfOk (switch_done w) (Goes w)
 unfolding switch_done
 switch-goes w = switch-made-goes (switch_made w.state.client.settings w.state.files w.state.workspaces) w
+
+-- ---- checks
+
+restarted_if-goes : (b : Bool) (w : TurnState State) → IfOk (checks_restarted_if b w) (Goes w)
+restarted_if-goes b w = announced-goes (checks_restarted_if b w) w (saying.restarted_if-owes Announces announcing b w)
+
+renewed_if-goes : (b : Bool) (w : TurnState State) → IfOk (checks_renewed_if b w) (Goes w)
+renewed_if-goes b w = announced-goes (checks_renewed_if b w) w (saying.renewed_if-owes Announces announcing b w)
 
 -- ---- notifications
 
@@ -243,13 +266,23 @@ unfolding save_noted
 noted-goes true path w = logged-goes UnknownSave path w
 noted-goes false path w = itself w
 
-saved-goes : (o : Result (List ℕ) UrlFault) (uri : List ℕ) (w : TurnState State) → Goes w (saved_at o uri w)
-unfolding saved_at
-saved-goes (Err fault) uri w = logged-goes _ uri w
-saved-goes (Ok path) uri w =
+saved-file-goes : (path : List ℕ) (w : TurnState State) → Goes w (saved_file path w)
+saved-file-goes path w =
     let noted : TurnState State = save_noted (is_unknown w.state.files.ids path) path w in
     goes-on w noted _ (noted-goes (is_unknown w.state.files.ids path) path w)
     (workspaces-go (path_saved w.state.client.settings w.state.files path) noted)
+
+saved-goes : (o : Result (List ℕ) UrlFault) (uri : List ℕ) (w : TurnState State) → IfOk (saved_at o uri w) (Goes w)
+unfolding saved_at
+saved-goes (Err fault) uri w =
+    let v : TurnState State = logged BadPath uri w in
+    behind-goes w v (checks_restarted_if (checks_all_on_save w.state.client.settings) v) (logged-goes BadPath uri w)
+    (restarted_if-goes (checks_all_on_save w.state.client.settings) v)
+saved-goes (Ok path) uri w =
+    let on_save : Bool = checks_on_save w.state.client.settings w.state.files.host.world.roots path in
+    behind-goes w (saved_file path w) (file_checked_if on_save path (saved_file path w)) (saved-file-goes path w)
+    (announced-goes (file_checked_if on_save path (saved_file path w)) (saved_file path w)
+    (saying.checked_if-owes Announces announcing on_save path (saved_file path w)))
 
 reread-goes : (url : List ℕ) (o : Result (List ℕ) UrlFault) (w : TurnState State) → Goes w (file_changed url o w)
 unfolding file_changed
@@ -284,12 +317,17 @@ told-goes (notices.DidClose uri) w = closed-goes (path_of uri) uri w
 told-goes (notices.DidSave uri) w = saved-goes (path_of uri) uri w
 told-goes notices.DidChangeConfiguration w = asking-goes Configuration Settings w
 told-goes (notices.DidChangeWorkspaceFolders added removed) w = folders-go added removed w
-told-goes (notices.DidChangeWatchedFiles urls) w = watched-go map.empty urls w
-told-goes (notices.CancelProgress token) w = itself w
-told-goes notices.CancelFlycheck w = itself w
+told-goes (notices.DidChangeWatchedFiles changes) w =
+    let restarts : Bool = restart_checks w.state.client.settings changes in
+    let v : TurnState State = files_changed map.empty changes w in
+    behind-goes w v (checks_restarted_if restarts v) (watched-go map.empty changes w) (restarted_if-goes restarts v)
+told-goes (notices.CancelProgress token) w = told-go (cancelled_under token w.state.activities.checks) w
+told-goes notices.CancelFlycheck w = told-go (all_cancelled w.state.activities.checks) w
 told-goes notices.ClearFlycheck w = acts-one ForgetsAll w tt (λ pass generation file run. refl)
-told-goes (notices.RunFlycheck uri) w = itself w
-told-goes notices.AbortRunTest w = itself w
+told-goes (notices.RunFlycheck uri) w = announced-goes (checks_run uri w) w (saying.checks-run-owe Announces announcing uri w)
+told-goes notices.AbortRunTest w =
+    let told : Announced Tests = aborted w.state.activities.tests in
+    announced-goes (tests_announced told w) w (saying.tests-announced-owe Announces announcing told w)
 
 heard-goes : (heard : Heard) (method : List ℕ) (w : TurnState State) → IfOk (noticed heard method w) (Goes w)
 unfolding noticed
@@ -300,11 +338,17 @@ heard-goes Silent method w = itself w
 
 -- ---- requests and answers
 
-requested-goes : (meaning : Meaning) (r : Request) (w : TurnState State) → IfOk (request_taken meaning r w) (Goes w)
-requested-goes meaning r w =
+request-answered-goes : (meaning : Meaning) (r : Request) (w : TurnState State) → IfOk (request_answered meaning r w) (Goes w)
+request-answered-goes meaning r w =
     goes-then (at_desk (requested meaning (scene_of w.state) r) w) _ w
     (desk-goes _ w (requested-step meaning (scene_of w.state) r (record { state = w.state.desk; out = w.out })))
     (λ v. workspaces-go (request_told r w.state.desk) v)
+
+requested-goes : (meaning : Meaning) (r : Request) (w : TurnState State) → IfOk (request_taken meaning r w) (Goes w)
+requested-goes meaning r w =
+    let run : Option RunTest = run_asked_by r w.state.desk in
+    goes-then (tests_run run w) (request_answered meaning r) w
+    (announced-goes (tests_run run w) w (saying.tests-run-owe Announces announcing run w)) (request-answered-goes meaning r)
 
 logs-told : {S : Type 0} (fault : Option (List ℕ)) (w : TurnState S) → told_in (logged_if SettingsError fault w).out ≡ told_in w.out
 unfolding logged ordered
@@ -312,7 +356,7 @@ logs-told None w = refl
 logs-told (Some text) w = refl
 
 shows-told : (b : Bool) (w : TurnState Client) → told_in (if b then written (notification_of OpenLogsMessage) w else w).out ≡ told_in w.out
-shows-told true w = told-none (notification_of OpenLogsMessage) w refl
+shows-told true w = written-unpublished (notification_of OpenLogsMessage) w refl
 shows-told false w = refl
 
 followed-told : (handler : Option ReqHandler) (response : Response) (w : TurnState Client) → told_in (followed handler response w).out ≡ told_in w.out
@@ -328,9 +372,12 @@ answered-told response w = followed-told (follows response.id w.state.asked) res
 
 answer-goes : (r : Response) (w : TurnState State) → IfOk (answer_taken r w) (Goes w)
 answer-goes r w =
-    goes-then _ (λ v. Ok (at_workspaces (settings_told w.state.client.settings v.state.client.settings) v)) w
+    goes-then (at_client (λ c. Ok (answered r c)) w) _ w
     (client-goes (λ c. Ok (answered r c)) w (answered-told r (record { state = w.state.client; out = w.out })))
-    (λ v. workspaces-go (settings_told w.state.client.settings v.state.client.settings) v)
+    (λ v. let u : TurnState State = at_workspaces (settings_told w.state.client.settings v.state.client.settings) v in
+    let renews : Bool = has_other_checks w.state.client.settings v.state.client.settings in
+    behind-goes v u (checks_renewed_if renews u) (workspaces-go (settings_told w.state.client.settings v.state.client.settings) v)
+    (renewed_if-goes renews u))
 
 -- ---- what jobs end
 
@@ -361,14 +408,14 @@ macros-go told w =
     IfOk-weaker (crates_arrived (crates_loaded told w.state.workspaces) v) (Goes v) (Goes w) (arrived-goes (crates_loaded told w.state.workspaces) v)
     (λ u p. goes-on w v u (workspaces-go (load_kept told) w) p)
 
-processed_if-goes : (b : Bool) (w : TurnState State) → IfOk (files_processed_if b w) (Goes w)
-unfolding files_processed_if
-processed_if-goes true w = processed-goes w
-processed_if-goes false w = itself w
+settled_if-goes : (b : Bool) (w : TurnState State) → IfOk (crates_settled_if b w) (Goes w)
+unfolding crates_settled_if
+settled_if-goes true w = goes-then (files_processed w) (checks_renewed_if true) w (processed-goes w) (renewed_if-goes true)
+settled_if-goes false w = itself w
 
 load-goes : (told : LoadEnd) (w : TurnState State) → IfOk (load_taken told w) (Goes w)
 unfolding load_taken
-load-goes told w = goes-then (macros_taken told w) _ w (macros-go told w) (processed_if-goes (is_some (crates_loaded told w.state.workspaces)))
+load-goes told w = goes-then (macros_taken told w) _ w (macros-go told w) (settled_if-goes (is_some (crates_loaded told w.state.workspaces)))
 
 -- one list of several
 one-brings : (t u v : Bool) (new : List Diagnostic) (old : Lists) (later : Lists → Lists)
@@ -424,6 +471,16 @@ unfolding end_taken
 end-goes None w fits = itself w
 end-goes (Some end) w fits = work-goes end w fits
 
+-- and then it is told how far the work is
+work-followed-goes : (end : Option WorkEnd) (told : List Telling) (w : TurnState State)
+    → EndFits w.state.board.generation w.state.files.table end → IfOk (work_followed end told w) (EndGoes end w)
+unfolding work_followed
+work-followed-goes end told w fits =
+    let brings : Bringing = λ pass generation file before. brought_by end pass generation file before in
+    IfOk-and_then (end_taken end w) (tellings_told told) (EndGoes end w) (EndGoes end w) (end-goes end w fits)
+    (λ v p. IfOk-weaker (tellings_told told v) (Goes v) (EndGoes end w) (told-go told v)
+    (λ u q. goes-by brings brings_none left_out left_out w v u p q))
+
 -- at the desk alone
 record StaysBut (left : Jobs → Jobs) (w v : TurnState State) : Type 0 where
   goes : GoesBy brings_none left w v
@@ -460,11 +517,12 @@ message-goes : (meaning : Meaning) (message : TaskMsg) (w : TurnState State) →
 unfolding message_taken
 message-goes meaning message w fit =
     let end = work_ended message w.state.desk.jobs in
-    IfOk-and_then (at_desk (taken_at_desk meaning (scene_of w.state) message) w) (end_taken end) (StaysBut (jobs_after message) w)
+    let told : List Telling = job_told message.body (fitting_job message w.state.desk.jobs) in
+    IfOk-and_then (at_desk (taken_at_desk meaning (scene_of w.state) message) w) (work_followed end told) (StaysBut (jobs_after message) w)
     (MessageGoes message w)
     (message-stays meaning message w)
-    (λ v s. IfOk-weaker (end_taken end v) (EndGoes end v) (MessageGoes message w)
-    (end-goes end v
+    (λ v s. IfOk-weaker (work_followed end told v) (EndGoes end v) (MessageGoes message w)
+    (work-followed-goes end told v
     (subst (λ (f : SessionFiles). EndFits v.state.board.generation f.table end) (sym s.files)
     (subst (λ n. EndFits n w.state.files.table end) (ap (λ (b : Board). b.generation) (sym s.board))
     (ended-fits w.state.board.generation w.state.files.table message w.state.desk.jobs fit))))
@@ -503,10 +561,15 @@ batch-goes meaning (m ∷ ms) w fit =
 
 -- ---- other events
 
-brought-goes : (messages : List LoaderMsg) (w : TurnState State) → IfOk (loader_taken messages w) (Goes w)
+brought-goes : (messages : List LoaderMsg) (w : TurnState State) → IfOk (loader_brought messages w) (Goes w)
 brought-goes messages w =
     goes-then (at_files (loaded messages) w) _ w (files-goes _ w (loaded-step messages (record { state = w.state.files; out = w.out })))
     (λ v. workspaces-go (renewed_if (bring_files messages) v.state.desk.turns) v)
+
+loader-goes : (messages : List LoaderMsg) (w : TurnState State) → IfOk (loader_taken messages w) (Goes w)
+loader-goes messages w =
+    let told : List Telling = scans_told w.state.client.settings.root_path messages in
+    goes-then (loader_brought messages w) (tellings_told told) w (brought-goes messages w) (told-go told)
 
 resumed-goes : (task : DeferredTask) (w : TurnState State) → IfOk (resumed task w) (Goes w)
 unfolding resumed
@@ -566,7 +629,7 @@ found-checks id generation of_package path diagnostic fix (Some (file, No)) w is
   files = refl;
 }
 
-check-checks : (message : FlycheckMsg) (w : TurnState State) → IsSound w.state.files → Checks w (check_told message w)
+check-checks : (message : FlycheckMsg) (w : TurnState State) → IsSound w.state.files → IfOk (check_told message w) (Checks w)
 unfolding check_told
 check-checks (checks.AddDiagnostic id generation of_package path diagnostic fix) w sound =
     found-checks id generation of_package path diagnostic fix (map.get w.state.files.ids path) w refl sound
@@ -575,18 +638,26 @@ check-checks (checks.ClearDiagnostics id of_package older_than) w sound = record
       (outdated-brings id of_package older_than);
   files = refl;
 }
-check-checks (checks.Progress id progress) w sound = record { goes = itself w; files = refl }
+check-checks (checks.Progress id progress) w sound =
+    let told : Announced Checked = progressed w.state.client.settings id progress w.state.activities.checks in
+    IfOk-weaker (checks_announced told w) (Announces w) (Checks w) (saying.checks-announced-owe Announces announcing told w)
+    (λ v a. record { goes = announces-go w v a; files = ap (λ (s : State). s.files) a.state })
 
-checks-go : (messages : List FlycheckMsg) (w : TurnState State) → IsSound w.state.files → Goes w (checks_told messages w)
+checks-go : (messages : List FlycheckMsg) (w : TurnState State) → IsSound w.state.files → IfOk (checks_told messages w) (Goes w)
+unfolding checks_told
 checks-go [] w sound = itself w
 checks-go (message ∷ messages) w sound =
-    let c = check-checks message w sound in
-    goes-on w (check_told message w) _ c.goes (checks-go messages (check_told message w) (subst IsSound (sym c.files) sound))
+    IfOk-and_then (check_told message w) (checks_told messages) (Checks w) (Goes w) (check-checks message w sound)
+    (λ v c. behind-goes w v (checks_told messages v) c.goes (checks-go messages v (subst IsSound (sym c.files) sound)))
 
-news-goes : (news : NewsData) (w : TurnState State) → IsSound w.state.files → Goes w (news_taken news w)
+checks-heard-go : (messages : List FlycheckMsg) (w : TurnState State) → IsSound w.state.files → IfOk (checks_heard messages w) (Goes w)
+unfolding checks_heard
+checks-heard-go messages w sound = goes-then (checks_told messages w) _ w (checks-go messages w sound) (asked_if-goes _ DiagnosticRefresh)
+
+news-goes : (news : NewsData) (w : TurnState State) → IsSound w.state.files → IfOk (news_taken news w) (Goes w)
 unfolding news_taken
-news-goes (told_news.Flycheck messages) w sound = checks-go messages w sound
-news-goes (told_news.TestResult messages) w sound = itself w
+news-goes (told_news.Flycheck messages) w sound = checks-heard-go messages w sound
+news-goes (told_news.TestResult messages) w sound = announced-goes (tests_heard messages w) w (saying.tests-heard-owe Announces announcing messages w)
 news-goes (told_news.DiscoverProject messages) w sound = itself w
 
 -- ---- an event
@@ -602,7 +673,7 @@ happened-goes meaning (Lsp (RequestMessage r)) w sound fit = requested-goes mean
 happened-goes meaning (Lsp (NotificationMessage n)) w sound fit = heard-goes (heard_of n) n.method w
 happened-goes meaning (Lsp (ResponseMessage r)) w sound fit = answer-goes r w
 happened-goes meaning (Task batch) w sound fit = batch-goes meaning batch w fit
-happened-goes meaning (Vfs messages) w sound fit = brought-goes messages w
+happened-goes meaning (Vfs messages) w sound fit = loader-goes messages w
 happened-goes meaning (Deferred tasks) w sound fit = all-resumed-go tasks w
 happened-goes meaning (News news) w sound fit = news-goes news w sound
 happened-goes meaning (Timer ticket) w sound fit = workspaces-go (with_fetches (fire ticket)) w

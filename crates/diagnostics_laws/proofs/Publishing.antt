@@ -11,7 +11,7 @@ use Rattle.session_files.specs.Current.{IsSound}
 use Rattle.session_model.specs.Inputs.{batch_of}
 use Rattle.session_model.specs.Machine.{Turning, begin_part, begun_fetches, build_part, closing_part, event_part, event_taken, fetch_part}
 use Rattle.session_model.specs.Machine.{fetch_started, files_done, files_part, in_state}
-use Rattle.session_model.specs.Machine.{knowing, marked_published, publish_part, quiet_done, quiet_part, register_part, runs_started}
+use Rattle.session_model.specs.Machine.{crates_come, knowing, knowing_crates, marked_published, publish_part, quiet_done, quiet_part, register_part, runs_started}
 use Rattle.session_model.specs.Machine.{saves_registered, some_processed, start_parts}
 use Rattle.session_model.specs.Machine.{state_in, status_done, status_part, step, switch_done, switch_part, turn_closed, turned, turning, with_state}
 use Rattle.session_model.specs.OwnJobs.{before_quiet, parts_before_quiet}
@@ -58,8 +58,10 @@ before-goes meaning s event sound fit =
     IfOk-and_then (event_part meaning event (turning w)) _ Ends
     Ends (in-part Gone (event_taken meaning event) (turning w) (event-goes meaning event w sound fit))
     (λ a g. IfOk-and_then (switch_part a) files_part Ends Ends
+    (IfOk-and_then (in_state switch_done a) (λ v. Ok (knowing_crates (crates_come a.state.state) v)) Ends Ends
     (in-part Gone switch_done a (IfOk-weaker (switch_done (session_in a)) (Goes (session_in a))
     Gone (switch-goes (session_in a)) (λ v p. then-goes (batch_of (Next event)) w (session_in a) v g p)))
+    (λ v g. g))
     (λ b h. IfOk-and_then (in_state files_done b) (λ v. Ok (knowing (some_processed b.state.state.files) v)) Ends Ends
     (in-part Gone files_done b (IfOk-weaker (files_done (session_in b)) (Goes (session_in b))
     Gone (files-done-go (session_in b)) (λ v p. then-goes (batch_of (Next event)) w (session_in b) v h p)))

@@ -1,46 +1,39 @@
 -- The steps of a turn that publish nothing: what they do on the board are acts that fit the session, and paths stay in the table.
-use Rattle.std.proofs.Common.{◌≡◌, ℕ, List, [], ◌∷◌, ◌++◌, append-nil, append_assoc, Bool, true, false, refl, sym, ap, ◌∙◌, subst}
-use Rattle.std.specs.Prelude.{Option, None, Some, Result, Ok, Err, IfOk, ◌==◌, if◌then◌else◌}
-use Rattle.std.specs.List.{cons_option}
+use Rattle.std.proofs.Common.{◌≡◌, ℕ, List, [], ◌∷◌, ◌++◌, append_assoc, Bool, true, false, refl, sym, ap, ◌∙◌, subst}
+use Rattle.std.specs.Prelude.{Option, None, Some, Result, IfOk, if◌then◌else◌}
 use Rattle.std.specs.FinMap as map
 use Rattle.std.proofs.lemmas.List.Elements.{filter_map-append}
+use Rattle.activities.specs.declared.telling.Telling.{Telling}
 use Rattle.docs_vfs.specs.declared.file_kinds.FileId.{FileId}
-use Rattle.lsp_frame.specs.Outgoing.{number_limit}
 use Rattle.lsp_frame.specs.declared.message.Message.{Message}
-use Rattle.notify.specs.declared.outgo.MessageKind.{MessageKind}
 use Rattle.notify.specs.declared.outgo.MessageKind.TheVariants.{Warning}
 use Rattle.notify.specs.declared.outgo.Outgo.{Outgo}
-use Rattle.notify.specs.declared.outgo.Outgo.TheVariants.{CodeLensRefresh, DiagnosticRefresh, InlayHintRefresh}
-use Rattle.notify.specs.declared.outgo.Outgo.TheVariants.{SemanticTokensRefresh, ShowMessage}
-use Rattle.notify.specs.declared.outgo.Outgo.TheVariants.{ShowMessageRequest}
+use Rattle.notify.specs.declared.outgo.Outgo.TheVariants.{ShowMessage}
 use Rattle.op_board.specs.Acts.{Act, step, steps}
 use Rattle.op_board.specs.Board.{Board}
 use Rattle.op_board.specs.declared.diagnostic.NativePass.{NativePass}
 use Rattle.op_board.proofs.NativeRuns.{continued}
-use Rattle.ra_config.specs.declared.capabilities.Capabilities.{Capabilities}
 use Rattle.client.specs.Client.{Client}
-use Rattle.client.specs.Steps.{asked_for, logged_if, notification_of, request_at}
-use Rattle.client.specs.Folds.{after_asking}
+use Rattle.client.specs.Steps.{asked_for, logged_if, notification_of}
 use Rattle.client.specs.declared.handler.ReqHandler.{ReqHandler}
-use Rattle.client.specs.declared.handler.ReqHandler.TheVariants.{Ignore, OpenLogs}
 use Rattle.session_port.specs.Jobs.{Jobs}
 use Rattle.session_port.specs.TurnState.{TurnState, and_then, logged, ordered, written}
 use Rattle.session_port.specs.Written.{Written}
 use Rattle.session_port.specs.declared.command.Command.{Command}
 use Rattle.session_port.specs.declared.command.LogCode.{LogCode}
 use Rattle.session_port.specs.declared.fault.Counter.{Counter}
-use Rattle.session_port.specs.declared.fault.Counter.TheVariants.{Outgoing as OutgoingNumbers}
 use Rattle.session_port.specs.declared.job.Job.{Job}
 use Rattle.desk.specs.Desk.{Desk}
-use Rattle.desk_laws.proofs.Results.{IfOk-and_then, IfOk-if, IfOk-weaker, IfOk-within}
+use Rattle.desk_laws.proofs.Results.{IfOk-and_then, IfOk-weaker, IfOk-within}
 use Rattle.session_files.specs.SessionFiles.{SessionFiles}
-use Rattle.session_model.specs.Machine.{asked_if, at_board, at_client, at_desk, at_files, at_workspaces, client_in, client_refreshed, desk_in}
-use Rattle.session_model.specs.Machine.{files_in, refreshes_done}
-use Rattle.session_model.specs.Machine.{text_shown, warned, with_client, with_desk, with_files}
+use Rattle.session_model.specs.Machine.{asked_if, at_board, at_client, at_desk, at_files, at_workspaces, client_in, desk_in}
+use Rattle.session_model.specs.Machine.{files_in}
+use Rattle.session_model.specs.Machine.{tellings_told, warned, with_client, with_desk, with_files}
 use Rattle.session_model.specs.State.{State}
-use Rattle.session_model.specs.declared.facts.FactsBefore.{FactsBefore}
 use Rattle.workspaces.specs.Workspaces.{Workspaces}
 use Rattle.session_laws.specs.Published.{Published, published_among, published_by}
+use Rattle.session_laws.proofs.Announcing as saying
+use Rattle.session_laws.proofs.Announcing.{Announces, announcing, written-unpublished}
 use Rattle.diagnostics_laws.proofs.StoringBatches.{Lists, last_given}
 use Rattle.diagnostics_laws.proofs.StoringGenerations.{AllFit, Fits, Grows, all-fit-grown, all-fit-on, steps-generation}
 use Rattle.diagnostics_laws.proofs.SoundingFiles.{FilesStep, longer-grows}
@@ -52,12 +45,6 @@ told_in out = published_among out.messages
 
 pub told-append : (xs ys : List Message) → published_among (xs ++ ys) ≡ published_among xs ++ published_among ys
 told-append xs ys = filter_map-append published_by xs ys
-
--- a message that publishes nothing
-pub told-none : {S : Type 0} (message : Message) (w : TurnState S) → published_by message ≡ None → told_in (written message w).out ≡ told_in w.out
-unfolding written
-told-none message w none =
-    told-append w.out.messages (message ∷ []) ∙ ap (λ (o : Option Published). told_in w.out ++ cons_option o []) none ∙ append-nil _
 
 -- ---- the relation
 
@@ -228,32 +215,34 @@ pub logged_if-goes : (code : LogCode) (text : Option (List ℕ)) (w : TurnState 
 logged_if-goes code None w = itself w
 logged_if-goes code (Some text) w = logged-goes code text w
 
+-- something is said that publishes nothing
+pub announces-go : (w v : TurnState State) → Announces w v → Goes w v
+announces-go w v a =
+    still w v (ap (λ (s : State). s.board) a.state) (ap (λ (s : State). s.files) a.state) (ap (λ (s : State). s.desk.jobs) a.state) a.unpublished
+
+pub announced-goes : (r : Result (TurnState State) Counter) (w : TurnState State) → IfOk r (Announces w) → IfOk r (Goes w)
+announced-goes r w said = IfOk-weaker r (Announces w) (Goes w) said (announces-go w)
+
+-- behind a step that goes
+pub behind-goes : (w v : TurnState State) (r : Result (TurnState State) Counter) → Goes w v → IfOk r (Goes v) → IfOk r (Goes w)
+behind-goes w v r first next = IfOk-weaker r (Goes v) (Goes w) next (λ u p. goes-on w v u first p)
+
 -- the client is told something that publishes nothing
 pub notified-goes : (message : Outgo) (w : TurnState State) → published_by (notification_of message) ≡ None
     → Goes w (written (notification_of message) w)
 unfolding written
-notified-goes message w none = still w _ refl refl refl (told-none (notification_of message) w none)
-
-asked-by : (b : Bool) (message : Outgo) (handler : ReqHandler) (w : TurnState Client)
-    → IfOk (if b then Err OutgoingNumbers else Ok (written (request_at w.state.asked.given message)
-    (record w { state = after_asking handler w.state })))
-    (λ v. told_in v.out ≡ told_in w.out)
-unfolding written
-asked-by true message handler w = tt
-asked-by false message handler w =
-    told-none (request_at w.state.asked.given message) (record { state = after_asking handler w.state; out = w.out }) refl
+notified-goes message w none = still w _ refl refl refl (written-unpublished (notification_of message) w none)
 
 -- it is asked for something
 pub asking-goes : (message : Outgo) (handler : ReqHandler) (w : TurnState State) → IfOk (at_client (asked_for message handler) w) (Goes w)
-unfolding asked_for
 asking-goes message handler w =
-    client-goes (asked_for message handler) w (asked-by (w.state.client.asked.given == number_limit) message
-    handler (record { state = w.state.client; out = w.out }))
+    announced-goes (at_client (asked_for message handler) w) w (saying.asking-owes Announces announcing message handler w)
 
 pub asked_if-goes : (wanted : Bool) (message : Outgo) (w : TurnState State) → IfOk (asked_if wanted message w) (Goes w)
-unfolding asked_if
-asked_if-goes true message w = asking-goes message Ignore w
-asked_if-goes false message w = itself w
+asked_if-goes wanted message w = announced-goes (asked_if wanted message w) w (saying.asked_if-owes Announces announcing wanted message w)
+
+pub told-go : (told : List Telling) (w : TurnState State) → IfOk (tellings_told told w) (Goes w)
+told-go told w = announced-goes (tellings_told told w) w (saying.told-owe Announces announcing told w)
 
 pub warned-goes : (texts : List (List ℕ)) (w : TurnState State) → Goes w (warned texts w)
 unfolding warned
@@ -261,21 +250,3 @@ warned-goes [] w = itself w
 warned-goes (text ∷ texts) w =
     let v : TurnState State = written (notification_of (ShowMessage text Warning)) w in
     goes-on w v _ (notified-goes (ShowMessage text Warning) w refl) (warned-goes texts v)
-
-pub shown-goes : (button : Bool) (text : Option (List ℕ × MessageKind)) (w : TurnState State) → IfOk (text_shown button text w) (Goes w)
-unfolding text_shown
-shown-goes button None w = itself w
-shown-goes true (Some text) w = asking-goes (ShowMessageRequest text.0 text.1) OpenLogs w
-shown-goes false (Some text) w = notified-goes (ShowMessage text.0 text.1) w refl
-
-refreshed-goes : (can : Capabilities) (w : TurnState State) → IfOk (client_refreshed can w) (Goes w)
-unfolding client_refreshed
-refreshed-goes can w =
-    goes-then (asked_if can.semantic_tokens_refresh SemanticTokensRefresh w) _ w (asked_if-goes can.semantic_tokens_refresh SemanticTokensRefresh w)
-    (λ v. goes-then (asked_if can.code_lens_refresh CodeLensRefresh v) _ v (asked_if-goes can.code_lens_refresh CodeLensRefresh v)
-    (λ u. goes-then (asked_if can.inlay_hints_refresh InlayHintRefresh u) _ u (asked_if-goes can.inlay_hints_refresh InlayHintRefresh u)
-    (asked_if-goes can.diagnostics_refresh DiagnosticRefresh)))
-
-pub refreshes-go : (facts : FactsBefore) (w : TurnState State) → IfOk (refreshes_done facts w) (Goes w)
-unfolding refreshes_done
-refreshes-go facts w = IfOk-if _ _ (Ok w) (Goes w) (refreshed-goes w.state.client.settings.capabilities w) (itself w)

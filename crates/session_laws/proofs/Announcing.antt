@@ -1,6 +1,6 @@
 -- What is told of work beside the jobs, for any relation between what was before a step and what is behind it.
 use Rattle.std.proofs.Common.{◌≡◌, ◌∙◌, ap, append-nil, ℕ, List, [], ◌∷◌, ◌++◌, length, Bool, true, false, refl, sym, subst}
-use Rattle.std.specs.List.{filter_map}
+use Rattle.std.specs.List.{cons_option, filter_map}
 use Rattle.std.proofs.lemmas.List.Elements.{filter_map-append}
 use Rattle.activities.specs.Announced.{Announced}
 use Rattle.activities.specs.Checks.{Checks, all_restarted, checks_set, progressed}
@@ -9,7 +9,7 @@ use Rattle.activities.specs.Work.{graph_told}
 use Rattle.activities.specs.declared.activities.Activities.{Activities}
 use Rattle.activities.specs.declared.telling.Telling.{Telling}
 use Rattle.activities.specs.declared.telling.Telling.TheVariants as tellings
-use Rattle.std.specs.Prelude.{◌==◌, cons_option, Option, None, Some, is_some, Result, Ok, Err, IfOk, if◌then◌else◌}
+use Rattle.std.specs.Prelude.{◌==◌, Option, None, Some, is_some, Result, Ok, Err, IfOk, if◌then◌else◌}
 use Rattle.std.specs.FinMap as map
 use Rattle.plain.specs.Texts.{text_cmp}
 use Rattle.docs_vfs.specs.FileUrls.{path_of}
