@@ -27,6 +27,7 @@ use Rattle.session_model.specs.Machine.{with_files}
 use Rattle.activities.specs.Scanning.{scans_told}
 use Rattle.activities.specs.declared.telling.Telling.{Telling}
 use Rattle.quiet_laws.proofs.Parts.{LeavesAll, told-leave}
+use Rattle.workspaces.specs.Workspaces.{Workspaces}
 use Rattle.session_model.specs.State.{State, columns_in}
 use Rattle.session_model.specs.Timing.{bring_files, renewed_if}
 use Rattle.session_model.specs.declared.heard.Heard.{Heard}

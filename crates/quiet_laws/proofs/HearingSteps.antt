@@ -21,7 +21,7 @@ use Rattle.op_board.specs.declared.diagnostic.NativePass.TheVariants.{Syntax, Se
 use Rattle.session_port.specs.declared.command.Command.{Command}
 use Rattle.session_port.specs.declared.command.Command.TheVariants.{Invalidate}
 use Rattle.session_port.specs.declared.command.LogCode.{LogCode}
-use Rattle.session_port.specs.declared.command.LogCode.TheVariants.{CheckUnknownFile, UnknownSave}
+use Rattle.session_port.specs.declared.command.LogCode.TheVariants.{BadPath, CheckUnknownFile, UnknownSave}
 use Rattle.session_port.specs.declared.fault.Counter.{Counter}
 use Rattle.session_port.specs.declared.news.FlycheckMsg.{FlycheckMsg}
 use Rattle.session_port.specs.declared.news.FlycheckMsg.TheVariants as checks

@@ -59,6 +59,7 @@ use Rattle.session_port.specs.declared.command.LogCode.TheVariants.{BuildError, 
 use Rattle.session_model.specs.Status.{build_fault, fetch_fault, is_quiescent}
 use Rattle.session_laws.specs.Entering.{AreOfRoots, BringsFiles, EndsWait, FilesSettings, IsOfRoots, IsShownAnew, MayBringFiles}
 use Rattle.session_laws.specs.Invariant.{is_load}
+use Rattle.session_laws.proofs.Announcing.{Announces, announcing, renewed_if-owes, told-owe}
 use Rattle.session_laws.proofs.Filing.{Processes, PutsCrates, crates-put, ok-from, processed-does}
 use Rattle.session_laws.proofs.Following.{followed-does, further-same}
 use Rattle.session_laws.proofs.Batches.{logged_if-same}

@@ -81,7 +81,7 @@ use Rattle.session_model.specs.declared.input.News.{News as NewsData}
 use Rattle.session_model.specs.declared.input.News.TheVariants as told_news
 use Rattle.session_laws.proofs.Announcing as announcing
 use Rattle.session_laws.proofs.Announcing.{Announcing}
-use Rattle.session_laws.proofs.Passing.{Says, says-deferred}
+use Rattle.session_laws.proofs.Passing.{Says, says-deferred, says-notified}
 use Rattle.session_laws.proofs.Running.{SameRuns, planned-runs, same-runs, save-runs}
 use Rattle.session_laws.proofs.Telling.{Speaks, speaks-on, tells-none}
 

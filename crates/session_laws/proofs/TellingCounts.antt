@@ -5,10 +5,12 @@ use Rattle.lsp_frame.specs.Outgoing.{number_limit}
 use Rattle.lsp_frame.specs.declared.message.Message.{Message}
 use Rattle.method_table.specs.declared.request.RunTest.{RunTest}
 use Rattle.ra_config.specs.Config.{ConfigData}
-use Rattle.serde_json.specs.Data.{Data, as_str}
+use Rattle.serde_json.specs.Data.{Data}
+use Rattle.serde_json.specs.Find.{as_str}
 use Rattle.session_port.specs.Jobs.{fitting_job}
 use Rattle.session_port.specs.Kinds.{job_group}
 use Rattle.session_port.specs.TurnState.{TurnState, and_then, logged, ordered, written}
+use Rattle.session_port.specs.declared.command.Command.TheVariants as orders
 use Rattle.session_port.specs.declared.event.LoaderMsg.{LoaderMsg}
 use Rattle.session_port.specs.declared.event.LoaderMsg.TheVariants.{Changed, Loaded}
 use Rattle.session_port.specs.declared.event.LoaderMsg.TheVariants.{Progress as IsAt}
@@ -33,13 +35,14 @@ use Rattle.activities.specs.Work.{body_told, graph_told, job_told, title_of, tol
 use Rattle.activities.specs.declared.telling.Telling.{Telling}
 use Rattle.activities.specs.declared.telling.Telling.TheVariants as tellings
 use Rattle.client.specs.Client.{Client}
-use Rattle.client.specs.Steps.{asked_for}
+use Rattle.client.specs.Steps.{asked_for, notification_of}
 use Rattle.client.specs.Progress.{progress_reported, progress_shown, shows_progress, token_of, token_shown}
 use Rattle.client.specs.declared.handler.ReqHandler.TheVariants.{Ignore, OpenLogs}
 use Rattle.client.specs.declared.work.WorkProgress.{WorkProgress}
 use Rattle.notify.specs.declared.outgo.MessageKind.TheVariants.{Error}
 use Rattle.notify.specs.declared.outgo.Outgo.{Outgo}
-use Rattle.notify.specs.declared.outgo.Outgo.TheVariants.{CreateProgress, ShowMessageRequest}
+use Rattle.notify.specs.declared.outgo.Outgo.TheVariants as messages
+use Rattle.notify.specs.declared.outgo.Outgo.TheVariants.{CreateProgress, ShowMessage, ShowMessageRequest}
 use Rattle.notify.specs.declared.progress.Progress.{Progress}
 use Rattle.notify.specs.declared.progress.Progress.TheVariants as states
 use Rattle.session_files.specs.SessionFiles.{SessionFiles}
@@ -113,7 +116,7 @@ requests_among (telling ∷ later) = requests_in telling + requests_among later
 error-does : (message : List ℕ) (button : Bool) (w : TurnState State) → Does (requests (if button then 1 else 0)) w (text_shown button (Some (message, Error)) w)
 unfolding text_shown written
 error-does message true w = request-counts (ShowMessageRequest message Error) OpenLogs w
-error-does message false w = does-same (requests 0) w _ refl
+error-does message false w = does-same (requests 0) w (written (notification_of (ShowMessage message Error)) w) refl
 
 telling-does : (telling : Telling) (w : TurnState State) → Does (requests (requests_in telling)) w (telling_told telling w)
 unfolding telling_told written logged ordered
@@ -121,16 +124,16 @@ telling-does (tellings.Begin title token message percentage) w = progress-does (
 telling-does (tellings.Report title token message percentage) w = progress-does (reported_work title token message percentage) w
 telling-does (tellings.End title token message) w = progress-does (ended_work title token message) w
 telling-does (tellings.ShowError message button) w = error-does message button w
-telling-does (tellings.TestState state id) w = does-same (requests 0) w _ refl
-telling-does tellings.EndRunTest w = does-same (requests 0) w _ refl
-telling-does (tellings.AppendOutput text) w = does-same (requests 0) w _ refl
-telling-does (tellings.Log code text) w = does-same (requests 0) w _ refl
-telling-does (tellings.SetChecks set) w = does-same (requests 0) w _ refl
-telling-does (tellings.RestartCheck id scope) w = does-same (requests 0) w _ refl
-telling-does (tellings.CancelCheck id) w = does-same (requests 0) w _ refl
-telling-does (tellings.RunTest include exclude) w = does-same (requests 0) w _ refl
-telling-does tellings.StopTest w = does-same (requests 0) w _ refl
-telling-does (tellings.Discover arg) w = does-same (requests 0) w _ refl
+telling-does (tellings.TestState state id) w = does-same (requests 0) w (written (notification_of (messages.TestState state id)) w) refl
+telling-does tellings.EndRunTest w = does-same (requests 0) w (written (notification_of messages.EndRunTest) w) refl
+telling-does (tellings.AppendOutput text) w = does-same (requests 0) w (written (notification_of (messages.AppendOutput text)) w) refl
+telling-does (tellings.Log code text) w = does-same (requests 0) w (logged code text w) refl
+telling-does (tellings.SetChecks set) w = does-same (requests 0) w (ordered (orders.SetChecks set) w) refl
+telling-does (tellings.RestartCheck id scope) w = does-same (requests 0) w (ordered (orders.RestartCheck id scope) w) refl
+telling-does (tellings.CancelCheck id) w = does-same (requests 0) w (ordered (orders.CancelCheck id) w) refl
+telling-does (tellings.RunTest include exclude) w = does-same (requests 0) w (ordered (orders.RunTest include exclude) w) refl
+telling-does tellings.StopTest w = does-same (requests 0) w (ordered orders.StopTest w) refl
+telling-does (tellings.Discover arg) w = does-same (requests 0) w (ordered (orders.Discover arg) w) refl
 
 told-does : (told : List Telling) (w : TurnState State) → Does (requests (requests_among told)) w (tellings_told told w)
 unfolding tellings_told
@@ -149,7 +152,7 @@ pub told-none : (told : List Telling) (w : TurnState State) → requests_among t
 told-none told w same = told-at-most 0 told w (omega (arith, same))
 
 requests-append : (first later : List Telling) → requests_among (first ++ later) ≡ requests_among first + requests_among later
-requests-append [] later = refl
+requests-append [] later = omega arith
 requests-append (telling ∷ first) later = let rest = requests-append first later in omega (arith, rest)
 
 -- ---- jobs, crate data and the loader
@@ -201,11 +204,11 @@ scans-few root messages = behind-few root messages None refl
 
 restarts-none : (set : List (ℕ × List ℕ)) → requests_among (map restart set) ≡ 0
 restarts-none [] = refl
-restarts-none (check ∷ set) = restarts-none set
+restarts-none (check ∷ set) = let rest = restarts-none set in omega (arith, rest)
 
 cancels-none : (set : List (ℕ × List ℕ)) → requests_among (map cancel set) ≡ 0
 cancels-none [] = refl
-cancels-none (check ∷ set) = cancels-none set
+cancels-none (check ∷ set) = let rest = cancels-none set in omega (arith, rest)
 
 none-if : (b : Bool) (first second : List Telling) → requests_among first ≡ 0 → requests_among second ≡ 0
     → requests_among (if b then first else second) ≡ 0
@@ -284,7 +287,7 @@ tests-does told w same = told-none told.tellings (record w { state = with_activi
 
 stops-none : (active : Bool) (later : List Telling) → requests_among later ≡ 0
     → requests_among ((if active then tellings.EndRunTest ∷ tellings.StopTest ∷ [] else []) ++ later) ≡ 0
-stops-none true later same = same
+stops-none true later same = omega (arith, same)
 stops-none false later same = same
 
 pub aborted-does : (tests : Tests) (w : TurnState State) → Does none w (tests_announced (aborted tests) w)

@@ -9,7 +9,8 @@ use Rattle.docs_vfs.specs.declared.source_roots.Root.{Root}
 use Rattle.ra_config.specs.Config.{ConfigData}
 use Rattle.ra_settings.specs.declared.row.Row.TheVariants.{CheckOnSave, CheckWorkspace}
 use Rattle.layered_settings.specs.Search.{setting}
-use Rattle.serde_json.specs.Data.{Data, as_str}
+use Rattle.serde_json.specs.Data.{Data}
+use Rattle.serde_json.specs.Find.{as_str}
 use Rattle.activities.specs.CheckRuns.{those_of}
 use Rattle.activities.specs.Checks.{Checks, cancelled_at, file_restarted}
 use Rattle.activities.specs.declared.telling.Telling.{Telling}
