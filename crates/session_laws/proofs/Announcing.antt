@@ -1,43 +1,29 @@
 -- What is told of work beside the jobs, for any relation between what was before a step and what is behind it.
 use Rattle.std.proofs.Common.{◌≡◌, ◌∙◌, ap, append-nil, ℕ, List, [], ◌∷◌, ◌++◌, length, Bool, true, false, refl, sym, subst}
-use Rattle.std.specs.List.{cons_option, filter_map}
+use Rattle.std.specs.List.{cons_option}
 use Rattle.std.proofs.lemmas.List.Elements.{filter_map-append}
 use Rattle.activities.specs.Announced.{Announced}
-use Rattle.activities.specs.Checks.{Checks, all_restarted, checks_set, progressed}
+use Rattle.activities.specs.Checks.{Checks, all_restarted, checks_set}
 use Rattle.activities.specs.TestRun.{Tests, run_asked, test_told}
-use Rattle.activities.specs.Work.{graph_told}
 use Rattle.activities.specs.declared.activities.Activities.{Activities}
 use Rattle.activities.specs.declared.telling.Telling.{Telling}
 use Rattle.activities.specs.declared.telling.Telling.TheVariants as tellings
-use Rattle.std.specs.Prelude.{◌==◌, Option, None, Some, is_some, Result, Ok, Err, IfOk, if◌then◌else◌}
-use Rattle.std.specs.FinMap as map
-use Rattle.plain.specs.Texts.{text_cmp}
+use Rattle.std.specs.Prelude.{◌==◌, Option, None, Some, Result, Ok, Err, IfOk, if◌then◌else◌}
 use Rattle.docs_vfs.specs.FileUrls.{path_of}
-use Rattle.docs_vfs.specs.Files.{path_at}
-use Rattle.docs_vfs.specs.declared.file_kinds.ChangedFile.{ChangedFile}
-use Rattle.docs_vfs.specs.declared.file_kinds.FileExcluded.{FileExcluded}
-use Rattle.docs_vfs.specs.declared.file_kinds.FileExcluded.TheVariants.{No, Yes}
-use Rattle.docs_vfs.specs.declared.file_kinds.FileId.{FileId}
 use Rattle.docs_vfs.specs.declared.file_url.UrlFault.{UrlFault}
 use Rattle.lsp_frame.specs.Outgoing.{number_limit}
 use Rattle.lsp_frame.specs.declared.message.Message.{Message}
-use Rattle.lsp_types.specs.declared.diagnostic.Diagnostic.{Diagnostic}
 use Rattle.ra_config.specs.declared.capabilities.Capabilities.{Capabilities}
-use Rattle.serde_json.specs.Data.{Data}
-use Rattle.session_port.specs.declared.command.Command.TheVariants.{Invalidate}
 use Rattle.session_port.specs.declared.command.Command.TheVariants as orders
-use Rattle.session_port.specs.declared.command.DeferredTask.TheVariants.{CheckProcMacroSources}
 use Rattle.session_port.specs.declared.command.LogCode.{LogCode}
-use Rattle.session_port.specs.declared.command.LogCode.TheVariants.{BadPath, CheckUnknownFile, SecondSettingsFile, UnknownSave}
+use Rattle.session_port.specs.declared.command.LogCode.TheVariants.{BadPath}
 use Rattle.session_port.specs.declared.fault.Counter.{Counter}
 use Rattle.session_port.specs.declared.fault.Counter.TheVariants.{Outgoing}
-use Rattle.session_port.specs.declared.news.FlycheckMsg.{FlycheckMsg}
 use Rattle.session_port.specs.declared.news.FlycheckMsg.TheVariants as checks
 use Rattle.session_port.specs.declared.news.TestMsg.{TestMsg}
 use Rattle.method_table.specs.declared.request.RunTest.{RunTest}
 use Rattle.session_port.specs.TurnState.{TurnState, and_then, logged, ordered, written}
 use Rattle.session_port.specs.Written.{Written}
-use Rattle.change_effects.specs.declared.effects.ChangeEffects.{ChangeEffects}
 use Rattle.client.specs.Client.{Client}
 use Rattle.client.specs.Folds.{after_asking}
 use Rattle.client.specs.Progress.{progress_reported, progress_shown, shows_progress, token_of, token_shown, value_at}
@@ -46,7 +32,7 @@ use Rattle.client.specs.declared.work.WorkProgress.{WorkProgress}
 use Rattle.client.specs.declared.handler.ReqHandler.{ReqHandler}
 use Rattle.client.specs.declared.handler.ReqHandler.TheVariants.{Ignore, OpenLogs}
 use Rattle.notify.specs.declared.outgo.MessageKind.{MessageKind}
-use Rattle.notify.specs.declared.outgo.MessageKind.TheVariants.{Error, Warning}
+use Rattle.notify.specs.declared.outgo.MessageKind.TheVariants.{Error}
 use Rattle.notify.specs.declared.outgo.Outgo.{Outgo}
 use Rattle.notify.specs.declared.outgo.Outgo.TheVariants.{CodeLensRefresh, DiagnosticRefresh, InlayHintRefresh, SemanticTokensRefresh, ShowMessage}
 use Rattle.notify.specs.declared.outgo.Outgo.TheVariants.{CreateProgress, ShowMessageRequest}
@@ -55,37 +41,18 @@ use Rattle.notify.specs.declared.outgo.Outgo.TheVariants as messages
 use Rattle.notify.specs.declared.progress.Progress.{Progress}
 use Rattle.notify.specs.declared.progress.Progress.TheVariants as states
 use Rattle.desk_laws.proofs.Results.{IfOk-and_then, IfOk-if, IfOk-weaker, IfOk-within}
-use Rattle.status.specs.Same.{is_same_status}
-use Rattle.status.specs.declared.status.Status.{Status}
-use Rattle.workspaces.specs.Workspaces.{Workspaces}
-use Rattle.workspaces.specs.declared.follows.Follows.{Follows}
-use Rattle.workspaces.specs.declared.follows.Follows.TheVariants.{Nothing, CrateData as CratesAnew, Wait, GoOn}
-use Rattle.op_board.specs.Acts.{step as after_act}
-use Rattle.op_board.specs.Acts.Act.{Takes}
-use Rattle.op_board.specs.Board.{Board}
-use Rattle.op_board.specs.Marked.{taken}
-use Rattle.session_model.specs.Crates.{is_unknown}
-use Rattle.session_model.specs.Diagnosing.{deleted_cleared, publication}
-use Rattle.session_model.specs.Machine.{all_published, at_board, check_told, checks_heard, checks_told, files_published, found_added, marked_published, news_taken}
 use Rattle.session_model.specs.Machine.{checks_announced, checks_done, checks_renewed_if, checks_restarted_if, checks_run, file_checked_at, file_checked_if}
-use Rattle.session_model.specs.Machine.{saved_file, telling_told, tellings_told, tests_announced, tests_heard, tests_run, with_activities}
-use Rattle.session_model.specs.Machine.{published_at, with_board}
-use Rattle.session_model.specs.Machine.{asked_if, at_client, client_in, effects_done, fetch_waits, file_changed, files_changed, files_followed, further_logged}
-use Rattle.session_model.specs.Machine.{loader_set, refreshes_done, client_refreshed, roots_renewed, save_noted, saved_at, settings_filed, sources_deferred}
-use Rattle.session_model.specs.Machine.{status_changed, status_done, status_kept, status_told, switch_followed, text_shown, warned, watchers_registered}
-use Rattle.session_model.specs.Machine.{with_client, with_sources, with_status, with_workspaces}
-use Rattle.session_model.specs.Restarting.{checks_all_on_save, checks_on_save, checks_workspaces, restart_at_rest, restarts_for}
-use Rattle.session_model.specs.Saving.{path_saved}
-use Rattle.session_model.specs.Sources.{change_for, client_with, further_files, parents_told}
-use Rattle.session_model.specs.State.{Sources, State}
-use Rattle.session_model.specs.Status.{opens_logs, shown_of, status_message, status_now, takes_status}
+use Rattle.session_model.specs.Machine.{telling_told, tellings_told, tests_announced, tests_heard, tests_run, with_activities}
+use Rattle.session_model.specs.Machine.{asked_if, at_client, client_in}
+use Rattle.session_model.specs.Machine.{refreshes_done, client_refreshed}
+use Rattle.session_model.specs.Machine.{text_shown}
+use Rattle.session_model.specs.Machine.{with_client}
+use Rattle.session_model.specs.Restarting.{checks_workspaces, restart_at_rest, restarts_for}
+use Rattle.session_model.specs.State.{State}
 use Rattle.session_model.specs.Telling.{begun_work, ended_work, reported_work}
-use Rattle.session_model.specs.Timing.{effects_for, fetch_planned}
 use Rattle.session_model.specs.declared.facts.FactsBefore.{FactsBefore}
-use Rattle.session_model.specs.declared.input.News.{News as NewsData}
-use Rattle.session_model.specs.declared.input.News.TheVariants as told_news
 use Rattle.session_laws.specs.Published.{Published, published_among, published_by}
-use Rattle.session_laws.proofs.Passing.{Asks, Says, asked-says, says-deferred, says-logged, says-none, says-notified, says-on, says-ordered}
+use Rattle.session_laws.proofs.Passing.{Asks, Says, asked-says, says-logged, says-none, says-notified, says-on, says-ordered}
 
 -- ---- what publishes nothing
 

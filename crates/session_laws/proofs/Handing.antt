@@ -38,7 +38,7 @@ use Rattle.session_laws.specs.Invariant.{place_of_state}
 use Rattle.session_laws.proofs.Asides.{aside-speaks}
 use Rattle.session_laws.proofs.Beside.{beside-spawned}
 use Rattle.session_laws.proofs.Counting.{Counts, given, state_ahead}
-use Rattle.session_laws.proofs.Exhausting.{for_event_part, taken_in-does}
+use Rattle.session_laws.proofs.EventCounts.{for_event_part, taken_in-does}
 use Rattle.session_laws.proofs.Announcing.{Announces, announcing, checks-done-owe, refreshes-owe}
 use Rattle.session_laws.proofs.OwnJobs.{announces-over, batch-done-over, batch_due, due-same, quiet-is, quiet-split}
 use Rattle.session_laws.proofs.OwnJobs.{FetchOver, HandedOver, HandsOver, before-is, checks-over, checks-same, fetch-over, fetch_begun, hands-none, hands-on}

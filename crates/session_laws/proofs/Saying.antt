@@ -1,12 +1,11 @@
 -- One walk through the steps of a turn that log, tell or ask something, for any relation between what was before a step and what is behind it.
-use Rattle.std.proofs.Common.{ℕ, List, [], ◌∷◌, length, Bool, true, false, refl, sym, subst}
+use Rattle.std.proofs.Common.{ℕ, List, [], ◌∷◌, Bool, true, false, refl}
 use Rattle.activities.specs.Announced.{Announced}
-use Rattle.activities.specs.Checks.{Checks, all_restarted, checks_set, progressed}
-use Rattle.activities.specs.TestRun.{Tests, run_asked, test_told}
+use Rattle.activities.specs.Checks.{Checks, progressed}
+use Rattle.activities.specs.TestRun.{Tests}
 use Rattle.activities.specs.Work.{graph_told}
 use Rattle.activities.specs.declared.activities.Activities.{Activities}
 use Rattle.activities.specs.declared.telling.Telling.{Telling}
-use Rattle.activities.specs.declared.telling.Telling.TheVariants as tellings
 use Rattle.std.specs.Prelude.{Option, None, Some, is_some, Result, Ok, Err, IfOk, if◌then◌else◌}
 use Rattle.std.specs.FinMap as map
 use Rattle.plain.specs.Texts.{text_cmp}
@@ -18,10 +17,8 @@ use Rattle.docs_vfs.specs.declared.file_kinds.FileExcluded.TheVariants.{No, Yes}
 use Rattle.docs_vfs.specs.declared.file_kinds.FileId.{FileId}
 use Rattle.docs_vfs.specs.declared.file_url.UrlFault.{UrlFault}
 use Rattle.lsp_types.specs.declared.diagnostic.Diagnostic.{Diagnostic}
-use Rattle.ra_config.specs.declared.capabilities.Capabilities.{Capabilities}
 use Rattle.serde_json.specs.Data.{Data}
 use Rattle.session_port.specs.declared.command.Command.TheVariants.{Invalidate}
-use Rattle.session_port.specs.declared.command.Command.TheVariants as orders
 use Rattle.session_port.specs.declared.command.DeferredTask.TheVariants.{CheckProcMacroSources}
 use Rattle.session_port.specs.declared.command.LogCode.{LogCode}
 use Rattle.session_port.specs.declared.command.LogCode.TheVariants.{BadPath, CheckUnknownFile, SecondSettingsFile, UnknownSave}
@@ -35,21 +32,15 @@ use Rattle.session_port.specs.Written.{Written}
 use Rattle.change_effects.specs.declared.effects.ChangeEffects.{ChangeEffects}
 use Rattle.client.specs.Client.{Client}
 use Rattle.client.specs.Folds.{after_asking}
-use Rattle.client.specs.Progress.{progress_reported, progress_shown, shows_progress, token_of, token_shown, value_at}
 use Rattle.client.specs.Steps.{asked_for, logged_if, notification_of}
-use Rattle.client.specs.declared.work.WorkProgress.{WorkProgress}
 use Rattle.client.specs.declared.handler.ReqHandler.{ReqHandler}
-use Rattle.client.specs.declared.handler.ReqHandler.TheVariants.{Ignore, OpenLogs}
 use Rattle.notify.specs.declared.outgo.MessageKind.{MessageKind}
-use Rattle.notify.specs.declared.outgo.MessageKind.TheVariants.{Error, Warning}
+use Rattle.notify.specs.declared.outgo.MessageKind.TheVariants.{Warning}
 use Rattle.notify.specs.declared.outgo.Outgo.{Outgo}
-use Rattle.notify.specs.declared.outgo.Outgo.TheVariants.{CodeLensRefresh, DiagnosticRefresh, InlayHintRefresh, SemanticTokensRefresh, ShowMessage}
-use Rattle.notify.specs.declared.outgo.Outgo.TheVariants.{CreateProgress, ShowMessageRequest}
-use Rattle.notify.specs.declared.outgo.Outgo.TheVariants.{Progress as ProgressTold}
+use Rattle.notify.specs.declared.outgo.Outgo.TheVariants.{DiagnosticRefresh, ShowMessage}
 use Rattle.notify.specs.declared.outgo.Outgo.TheVariants as messages
 use Rattle.notify.specs.declared.progress.Progress.{Progress}
-use Rattle.notify.specs.declared.progress.Progress.TheVariants as states
-use Rattle.desk_laws.proofs.Results.{IfOk-and_then, IfOk-if, IfOk-weaker, IfOk-within}
+use Rattle.desk_laws.proofs.Results.{IfOk-if}
 use Rattle.status.specs.Same.{is_same_status}
 use Rattle.status.specs.declared.status.Status.{Status}
 use Rattle.workspaces.specs.Workspaces.{Workspaces}
@@ -62,19 +53,18 @@ use Rattle.op_board.specs.Marked.{taken}
 use Rattle.session_model.specs.Crates.{is_unknown}
 use Rattle.session_model.specs.Diagnosing.{deleted_cleared, publication}
 use Rattle.session_model.specs.Machine.{all_published, at_board, check_told, checks_heard, checks_told, files_published, found_added, marked_published, news_taken}
-use Rattle.session_model.specs.Machine.{checks_announced, checks_done, checks_renewed_if, checks_restarted_if, checks_run, file_checked_at, file_checked_if}
-use Rattle.session_model.specs.Machine.{saved_file, telling_told, tellings_told, tests_announced, tests_heard, tests_run, with_activities}
+use Rattle.session_model.specs.Machine.{checks_announced, checks_done, checks_renewed_if, checks_restarted_if, checks_run, file_checked_if}
+use Rattle.session_model.specs.Machine.{saved_file, tellings_told, tests_announced, tests_heard, tests_run, with_activities}
 use Rattle.session_model.specs.Machine.{published_at, with_board}
-use Rattle.session_model.specs.Machine.{asked_if, at_client, client_in, effects_done, fetch_waits, file_changed, files_changed, files_followed, further_logged}
-use Rattle.session_model.specs.Machine.{loader_set, refreshes_done, client_refreshed, roots_renewed, save_noted, saved_at, settings_filed, sources_deferred}
+use Rattle.session_model.specs.Machine.{asked_if, at_client, effects_done, fetch_waits, file_changed, files_changed, files_followed, further_logged}
+use Rattle.session_model.specs.Machine.{loader_set, refreshes_done, roots_renewed, save_noted, saved_at, settings_filed, sources_deferred}
 use Rattle.session_model.specs.Machine.{status_changed, status_done, status_kept, status_told, switch_followed, text_shown, warned, watchers_registered}
 use Rattle.session_model.specs.Machine.{with_client, with_sources, with_status, with_workspaces}
-use Rattle.session_model.specs.Restarting.{checks_all_on_save, checks_on_save, checks_workspaces, restart_at_rest, restarts_for}
+use Rattle.session_model.specs.Restarting.{checks_all_on_save, checks_on_save}
 use Rattle.session_model.specs.Saving.{path_saved}
 use Rattle.session_model.specs.Sources.{change_for, client_with, further_files, parents_told}
 use Rattle.session_model.specs.State.{Sources, State}
 use Rattle.session_model.specs.Status.{opens_logs, shown_of, status_message, status_now, takes_status}
-use Rattle.session_model.specs.Telling.{begun_work, ended_work, reported_work}
 use Rattle.session_model.specs.Timing.{effects_for, fetch_planned}
 use Rattle.session_model.specs.declared.facts.FactsBefore.{FactsBefore}
 use Rattle.session_model.specs.declared.input.News.{News as NewsData}
@@ -340,11 +330,7 @@ module _ (R : TurnState State → TurnState State → Type 0) (owed : Saying R) 
   checks-heard-owe messages w = owes-then (checks_told messages w) _ w (checks-owe messages w) (asked_if-owes _ DiagnosticRefresh)
 
   tests-heard-owe : (messages : List TestMsg) (w : TurnState State) → IfOk (tests_heard messages w) (R w)
-  unfolding tests_heard
-  tests-heard-owe [] w = none-owes w
-  tests-heard-owe (message ∷ later) w =
-      owes-then (tests_announced (test_told message w.state.activities.tests) w) (tests_heard later) w
-      (tests-announced-owe (test_told message w.state.activities.tests) w) (tests-heard-owe later)
+  tests-heard-owe messages w = announcing.tests-heard-owe R telling messages w
 
   pub news-owe : (news : NewsData) (w : TurnState State) → IfOk (news_taken news w) (R w)
   unfolding news_taken
