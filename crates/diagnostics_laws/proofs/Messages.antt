@@ -4,7 +4,7 @@ use Rattle.std.specs.Prelude.{◌&&◌, cond, nat_eq, Option, None, Some, is_som
 use Rattle.std.specs.Option.{option_map}
 use Rattle.std.specs.FinMap as map
 use Rattle.activities.specs.Announced.{Announced}
-use Rattle.activities.specs.Checks.{Checks as Checked, all_cancelled, progressed}
+use Rattle.activities.specs.Checks.{Checks as ChecksKept, all_cancelled, progressed}
 use Rattle.activities.specs.Scanning.{scans_told}
 use Rattle.activities.specs.TestRun.{Tests, aborted}
 use Rattle.activities.specs.Work.{graph_told, job_told}
@@ -82,7 +82,7 @@ use Rattle.session_model.specs.Fetching.{fetch_kept, folders_told_if, settings_t
 use Rattle.session_model.specs.Hearing.{heard_of}
 use Rattle.session_model.specs.Inputs.{batch_of}
 use Rattle.session_model.specs.Loading.{crates_loaded, load_kept}
-use Rattle.session_model.specs.Machine.{all_resumed, answer_taken, at_board, at_desk, at_files, at_workspaces, batched, build_taken, check_told}
+use Rattle.session_model.specs.Machine.{all_resumed, answer_taken, at_board, at_client, at_desk, at_files, at_workspaces, batched, build_taken, check_told}
 use Rattle.session_model.specs.Machine.{checks_announced, checks_heard, checks_renewed_if, checks_restarted_if, checks_run, checks_told}
 use Rattle.session_model.specs.Machine.{crates_settled_if, file_checked_if, loader_brought, request_answered, saved_file, tellings_told}
 use Rattle.session_model.specs.Machine.{tests_announced, tests_heard, tests_run, work_followed}
@@ -639,7 +639,7 @@ check-checks (checks.ClearDiagnostics id of_package older_than) w sound = record
   files = refl;
 }
 check-checks (checks.Progress id progress) w sound =
-    let told : Announced Checked = progressed w.state.client.settings id progress w.state.activities.checks in
+    let told : Announced ChecksKept = progressed w.state.client.settings id progress w.state.activities.checks in
     IfOk-weaker (checks_announced told w) (Announces w) (Checks w) (saying.checks-announced-owe Announces announcing told w)
     (λ v a. record { goes = announces-go w v a; files = ap (λ (s : State). s.files) a.state })
 

@@ -62,6 +62,7 @@ const NONE_USED: Counters = Counters {
     jobs: 0,
     revisions: 0,
     outgoing: 0,
+    discoveries: 0,
     files: 0,
     loader_settings: 0,
 };

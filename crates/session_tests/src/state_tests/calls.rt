@@ -3,9 +3,9 @@ ghost use Rattle.std.specs.Prelude.{◌≡◌, None, IfSome};
 
 use super::asking::{agree, settings};
 use lsp_frame::{RequestId, Response, ResponseError};
-use notify::Outgo;
+use notify::{Outgo, Progress};
 use plain::Text;
-use session_model::{Client, ReqHandler, SessionFiles};
+use session_model::{Client, ReqHandler, SessionFiles, WorkProgress};
 use session_state::{GlobalState, TurnOut};
 use std::alloc::Global;
 use std::test::Fail;
@@ -44,8 +44,20 @@ fn complete(state: &mut GlobalState, out: &mut TurnOut) -> Option<bool> {
     Some(state.complete_request(response, out).is_ok())
 }
 
+/// Some work begins, of which 29 of 100 are done.
+fn report(alloc: Global, state: &mut GlobalState, out: &mut TurnOut) -> Option<bool> {
+    let work = WorkProgress {
+        title: Text::from_str(alloc, "X").ok()?,
+        state: Progress::Begin,
+        message: None,
+        percentage: Some(29),
+        cancel_token: None,
+    };
+    Some(state.report_progress(work, out).is_ok())
+}
+
 /// What a call answers, or that it went well: `respond`, and `completed` ask of ticket 1, `cancel` of id 5, `complete` of the session's
-/// request 0; `request` and `notification` send one; and `quiescent` asks for rest.
+/// request 0; `request` and `notification` send one; `progress` tells of some work; and `quiescent` asks for rest.
 pub fn answer_to(
     alloc: Global,
     state: &mut GlobalState,
@@ -62,6 +74,7 @@ pub fn answer_to(
         }
         "notification" => Some(state.send_notification(Outgo::EndRunTest, out).is_ok()),
         "complete" => complete(state, out),
+        "progress" => report(alloc, state, out),
         "quiescent" => Some(state.is_quiescent()),
         _ => None,
     }
@@ -79,6 +92,8 @@ call request then call request > yes Content-Length: 62\r\n\r\n{"id":1,"jsonrpc"
 call request then call complete > yes
 call complete > yes log
 call notification > yes Content-Length: 52\r\n\r\n{"jsonrpc":"2.0","method":"experimental/endRunTest"}
+as progress then call progress > yes Content-Length: 102\r\n\r\n{"id":0,"jsonrpc":"2.0","method":"window/workDoneProgress/create","params":{"token":"rustAnalyzer/X"}}Content-Length: 148\r\n\r\n{"jsonrpc":"2.0","method":"$/progress","params":{"token":"rustAnalyzer/X","value":{"cancellable":false,"kind":"begin","percentage":29,"title":"X"}}}
+as none then call progress > yes
 call quiescent > yes
 start then call quiescent > no
 start then fetched then call quiescent > yes"#;
