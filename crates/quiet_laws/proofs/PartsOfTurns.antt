@@ -144,22 +144,19 @@ record Switched (t v : TurnState Turning) : Type 0 where
   is : switch_done (session_in t) ≡ Ok (session_in v)
   facts : v.state.facts ≡ record t.state.facts { crates = crates_come t.state.state }
 
+abbrev SwitchKnown : TurnState Turning → TurnState Turning → Type 0
+SwitchKnown t v = (switch_done (session_in t) ≡ Ok (session_in v)) × (v.state.facts ≡ record t.state.facts { crates = crates_come t.state.state })
+
+switch-known : (t : TurnState Turning) → IfOk (switch_part t) (SwitchKnown t)
+unfolding switch_part
+switch-known t =
+    IfOk-and_then (in_state switch_done t) _ (Is switch_done t) (SwitchKnown t) (within-is switch_done t)
+    (λ v is. (is.is, ap (λ (f : FactsBefore). record f { crates = crates_come t.state.state }) is.facts))
+
 switched-is : (t : TurnState Turning) → IfOk (switch_part t) (Switched t)
-switched-is t = both (switch_part t) refl (switched t)
+switched-is t = both (switch_part t) refl (switch-known t)
   where
-    Known : TurnState Turning → Type 0
-    Known v = (switch_done (session_in t) ≡ Ok (session_in v)) × (v.state.facts ≡ record t.state.facts { crates = crates_come t.state.state })
-
-    switched : (t : TurnState Turning) → IfOk (switch_part t) (λ v. (switch_done (session_in t) ≡ Ok (session_in v))
-        × (v.state.facts ≡ record t.state.facts { crates = crates_come t.state.state }))
-    unfolding switch_part
-    switched t =
-        IfOk-and_then (in_state switch_done t) _ (Is switch_done t)
-        (λ v. (switch_done (session_in t) ≡ Ok (session_in v)) × (v.state.facts ≡ record t.state.facts { crates = crates_come t.state.state }))
-        (within-is switch_done t)
-        (λ v is. (is.is, ap (λ (f : FactsBefore). record f { crates = crates_come t.state.state }) is.facts))
-
-    both : (r : Result (TurnState Turning) Counter) → r ≡ switch_part t → IfOk r Known → IfOk r (Switched t)
+    both : (r : Result (TurnState Turning) Counter) → r ≡ switch_part t → IfOk r (SwitchKnown t) → IfOk r (Switched t)
     both (Ok v) same known = record { whole = sym same; is = known.0; facts = known.1 }
     both (Err counter) same known = tt
 
