@@ -36,6 +36,7 @@ use Rattle.desk_laws.proofs.Settling.{cancel-settles, message-settles, request-s
 use Rattle.workspaces.specs.Loads.{loaded_crates}
 use Rattle.workspaces.specs.Workspaces.{Workspaces}
 use Rattle.session_files.specs.Steps.{crates_put, loaded}
+use Rattle.session_files.specs.SessionFiles.{SessionFiles}
 use Rattle.session_model.specs.Building.{build_kept, request_told}
 use Rattle.session_model.specs.Checking.{check_kept, check_kind}
 use Rattle.session_model.specs.Diagnosing.{lists_given, tests_told}
@@ -56,7 +57,7 @@ use Rattle.activities.specs.Work.{job_told}
 use Rattle.activities.specs.declared.telling.Telling.{Telling}
 use Rattle.session_laws.proofs.Announcing.{renewed_if-owes, restarted_if-owes, tests-announced-owe, tests-run-owe}
 use Rattle.session_model.specs.Machine.{loader_taken, macros_taken}
-use Rattle.session_model.specs.Machine.{message_taken, noticed, received, request_taken, resumed, told, with_client, work_taken}
+use Rattle.session_model.specs.Machine.{message_taken, news_taken, noticed, received, request_taken, resumed, told, with_client, work_taken}
 use Rattle.session_model.specs.State.{State, goes_by_folders, scene_of, snapshot_of}
 use Rattle.session_model.specs.Status.{build_fault, fetch_fault}
 use Rattle.session_model.specs.Timing.{bring_files, renewed_if}
