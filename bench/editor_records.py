@@ -1,14 +1,16 @@
 #!/usr/bin/env python3
 """Records what editors write, and compares replays with the sessions: bench/editor_records.py PROGRAM [CASE ..]
 
-A case is a file of tests/cases/editors, a session of the word `lsp`. What stands behind its handshake is given to the words
-`session` and `record`; the record is replayed as it is, and once more with the editor's own `initialize` as its beginning.
+A case is a file of tests/cases/editors, a session of the word `lsp`, which has threads: each message is given while it rests. What
+stands behind its handshake is given to the words `session` and `record`; the record is replayed as it is, and once more with the
+editor's own `initialize` as its beginning.
 The first has to be what `session` wrote, the second what `lsp` wrote behind the handshake."""
 import json, pathlib, subprocess, sys
 
 TOP = pathlib.Path(__file__).resolve().parent.parent
 sys.path.insert(0, str(TOP / "tests"))
 import record
+import run as stored
 
 def run(program, word, data):
     done = subprocess.run([program, word], input=data, capture_output=True)
@@ -24,7 +26,7 @@ def main(program, *paths):
         bodies = [line[2:] for line in path.read_bytes().split(b"\n") if line.startswith(b"> ")]
         begun = next(at for at, body in enumerate(bodies) if b'"initialized"' in body) + 1
         frames = list(map(record.frame, bodies))
-        whole = run(program, "lsp", b"".join(frames))[1]
+        whole = stored.run(program, [(0, "words", b"lsp")] + [(at, ">", body) for at, body in enumerate(bodies)], "all")[1]
         session = run(program, "session", b"".join(frames[begun:]))[1]
         status, kept = run(program, "record", b"".join(frames[begun:]))
         events = record.decode_record(kept)[1]

@@ -67,22 +67,50 @@ def cases_of(path, parts):
         yield name, [(0, "words", b"replay"), (0, "status", b"3"), (0, "record", record)] + kept, (
             turns_of(lines) if any(word == "order" for _, word, _ in lines) else [])
 
-def give(program, lines, pieces, out):
-    """Writes the input: all at once, in pieces of so many bytes, or each message once the answers before it are there."""
+def threads_of(program):
+    """Of each thread of a program whether it sleeps, and how often it was put to sleep or set aside."""
+    told = {}
+    for task in pathlib.Path(f"/proc/{program.pid}/task").iterdir():
+        status = dict(line.split(":\t", 1) for line in (task / "status").read_text().splitlines() if ":\t" in line)
+        told[task.name] = status["State"][0], status["voluntary_ctxt_switches"], status["nonvoluntary_ctxt_switches"]
+    return told
+
+def is_at_rest(program):
+    """Whether a program has read all that was given and has nothing else to do: two threads at most, of which none ran meanwhile."""
+    try:
+        before = threads_of(program)
+        is_read = not any(fcntl.ioctl(program.stdin, termios.FIONREAD, bytes(4)))
+        return is_read and len(before) <= 2 and all(state == "S" for state, *_ in before.values()) and threads_of(program) == before
+    except (FileNotFoundError, ProcessLookupError):
+        return False
+
+def await_rest(program):
+    while program.poll() is None and not is_at_rest(program):
+        time.sleep(0.0002)
+
+def give(program, lines, pieces, out, has_threads):
+    """Writes the input: all at once, in pieces of so many bytes, or each message once the answers before it are there. A program with
+    threads gets each piece, and of what is given at once each message, while it rests."""
     parts = [bytes_of(word, rest) for _, word, rest in lines if word in SENT]
     before = [sum(len(bytes_of(w, r)) for n, w, r in lines if w in WANTED and n < number)
               for number, word, _ in lines if word in SENT]
     if pieces != "replies":
-        whole, before = b"".join(parts), []
+        before = []
+    if pieces not in ("replies", "all") or pieces == "all" and not has_threads:
+        whole = b"".join(parts)
         size = len(whole) + 1 if pieces == "all" else int(pieces)
         parts = [whole[at:at + size] for at in range(0, len(whole), size)]
     try:
         for at, part in enumerate(parts):
+            if has_threads:
+                await_rest(program)
             while before and program.poll() is None and os.fstat(out.fileno()).st_size < before[at]:
                 time.sleep(0.001)
             program.stdin.write(part)
             while pieces != "all" and program.poll() is None and any(fcntl.ioctl(program.stdin, termios.FIONREAD, bytes(4))):
                 time.sleep(0)
+        if has_threads:
+            await_rest(program)
         program.stdin.close()
     except BrokenPipeError:
         pass
@@ -101,7 +129,7 @@ def run(program, lines, pieces):
         os.close(err), os.close(closed)
         clock = threading.Timer(60, begun.kill)
         clock.start()
-        os.close(source) if "input" in one else give(begun, lines, pieces, out)
+        os.close(source) if "input" in one else give(begun, lines, pieces, out, one["words"].split()[:1] == ["lsp"])
         status = begun.wait()
         clock.cancel(), out.seek(0)
         return status, out.read(), errors.read()
@@ -149,4 +177,5 @@ def main(words):
     print(*wrong, f"{len(runs) - len(wrong)} passed, {len(wrong)} failed", sep="\n")
     return 1 if wrong or not runs else 0
 
-sys.exit(main(sys.argv[1:]))
+if __name__ == "__main__":
+    sys.exit(main(sys.argv[1:]))

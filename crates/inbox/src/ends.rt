@@ -117,6 +117,9 @@ impl HostEnd {
     {
         for _ in rt.forever() {
             if let Some(entry) = self.take(rt) {
+                if entry.is_read() {
+                    self.inbox.make_room();
+                }
                 return entry;
             }
             self.inbox.sleep(rt);
@@ -143,10 +146,11 @@ impl HostEnd {
         self.inbox.close(&mut self.pass, pass);
     }
 
-    /// Takes in the end of a reader that has ended. What was taken of its entries is a beginning of what it posted.
+    /// Takes in the end of a reader that has ended. What was taken of its entries is a beginning of what it posted, which is of the source.
     pub fn settle<R: Wait>(self, rt: &R, end: ReaderEnd)
         requires { IsSegPassOf (arc_value self.inbox).queue end.pass }
-        ensures { IsBeginning self.pass.me.view.client.taken end.pass.me.view.client.posted }
+        ensures begins { IsBeginning self.pass.me.view.client.taken end.pass.me.view.client.posted }
+        ensures posting { IsPosting self.pass.me.view.client.faults self.pass.me.view.client.held end.pass.me.view.client.posted }
     {
         let HostEnd { inbox, mut pass } = self;
         let ReaderEnd {

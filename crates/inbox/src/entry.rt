@@ -1,5 +1,5 @@
 //! What stands in the inbox, and what a thread knows of it.
-ghost use Rattle.std.specs.Prelude.{◌≡◌, ◌∷◌, [], length};
+ghost use Rattle.std.specs.Prelude.{◌≡◌, true, ◌∷◌, [], length};
 ghost use Rattle.inbox.specs.Posting.{bytes_of};
 
 use crate::told::Token;
@@ -24,6 +24,18 @@ pub enum Entry {
 }
 
 impl Entry {
+    /// Whether it is the source's end.
+    pub fn is_end(&self) -> bool
+        ensures { result ≡ true → self.now ≡ Entry.Ended }
+    {
+        matches!(self, Entry::Ended)
+    }
+
+    /// Whether the reader posted it.
+    pub fn is_read(&self) -> bool {
+        !matches!(self, Entry::Opened(_) | Entry::Done(_))
+    }
+
     /// How many bytes it brings.
     pub fn len(&self) -> u64
         ensures { result ≡ length (bytes_of (self.now ∷ [])) }

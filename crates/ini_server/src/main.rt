@@ -4,7 +4,7 @@
 mod ini;
 
 use ini::Ini;
-use server::{Program, start};
+use server::{Program, start_on_one_thread};
 use std::process::ExitCode;
 
 const PROGRAM: Program<'static> = Program {
@@ -22,5 +22,5 @@ usage: ini_server lsp
 };
 
 fn main(rt: HostRuntime) -> ExitCode {
-    start(&rt, &PROGRAM, &Ini(rt.alloc()))
+    start_on_one_thread(&rt, &PROGRAM, &Ini(rt.alloc()))
 }

@@ -35,5 +35,5 @@ status: 0 the session ended by `exit`               7 the output failed
 };
 
 fn main(rt: HostRuntime) -> ExitCode {
-    start(&rt, &PROGRAM, &SmallAnalysis::new(rt.alloc()))
+    start(rt, &PROGRAM, SmallAnalysis::new(rt.alloc()))
 }

@@ -1,17 +1,14 @@
 //! What a host with threads hands to them. JSON, a message of the client, settings, a snapshot, a job, its messages, a
 //! loader's messages, an event and a command may go to another thread, and threads may share a snapshot and a job: the
-//! functions here say no more than that these bounds hold. A worker may be started on a job. A crate above, whose types
-//! or closures hold one of these, cites the rulesets `sends` and `syncs` of `proofs/Sent.antt`.
+//! functions here say no more than that these bounds hold. A crate above, whose types or closures hold one of these, cites
+//! the rulesets `sends` and `syncs` of `proofs/Sent.antt`.
 #![tactic(auto)]
-
-mod worker;
 
 use analysis_host::GlobalStateSnapshot;
 use lsp_frame::Message;
 use plain::{Json, SharedJson};
 use ra_config::Config;
 use session_port::{Command, HostEvent, Job, JobResult, LoaderMsg, TaskMsg};
-pub use worker::{Promised, Started, Worker, start};
 
 /// Lets go of a value that may go to another thread.
 fn sends<T: Send + Drop>(x: T) {

@@ -7,4 +7,5 @@ pub mod Stages
 pub mod Status
 pub mod Streams
 pub mod Talking
+pub mod Threaded
 pub mod Words

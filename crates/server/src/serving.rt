@@ -24,7 +24,7 @@ use session_replay::{ReplayError, record, replay};
 use std::alloc::{AllocError, Global};
 
 /// How many threads the program's sessions may use.
-const THREADS: u32 = 4;
+pub(crate) const THREADS: u32 = 4;
 
 // The settings of a session that begins without a handshake.
 fn session_config(alloc: Global) -> Result<Config, AllocError>
@@ -56,7 +56,7 @@ fn run_session<H: Host<A>, S: Sink, A: Analysis>(
 }
 
 // A handshake, and the session that it begins.
-fn run_lsp<H: Host<A>, S: Sink, A: Analysis>(
+pub(crate) fn run_lsp<H: Host<A>, S: Sink, A: Analysis>(
     alloc: Global,
     host: &mut H,
     sink: &mut S,

@@ -9,6 +9,9 @@ use session_replay::ReplayError;
 /// The status where the words are none that the program knows.
 pub const BAD_WORDS: u8 = 2;
 
+/// The status where the input has ended without `exit`.
+pub(crate) const CLIENT_EXITED: u8 = 3;
+
 /// The status where the output can't be written.
 pub(crate) const WRITE_FAULT: u8 = 7;
 
@@ -21,7 +24,7 @@ pub fn status_of(outcome: Result<(), SessionError>) -> u8
 {
     match outcome {
         Ok(()) => 0,
-        Err(SessionError::ClientExited) => 3,
+        Err(SessionError::ClientExited) => CLIENT_EXITED,
         Err(SessionError::BadFrame { .. }) => 4,
         Err(SessionError::BadMessage { .. }) => 5,
         Err(SessionError::HostFault) => 6,
@@ -62,7 +65,7 @@ pub fn status_text(status: u8) -> &'static str
     match status {
         0 => "",
         BAD_WORDS => "bad words",
-        3 => "client exited without proper shutdown sequence",
+        CLIENT_EXITED => "client exited without proper shutdown sequence",
         4 => "bad frame",
         5 => "bad message",
         6 => "the host failed",

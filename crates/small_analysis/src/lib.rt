@@ -14,6 +14,7 @@ mod names;
 mod offsets;
 mod roots;
 mod unmatched;
+mod workers;
 
 pub use analysis::SmallAnalysis;
 pub use laws::{brackets_match_in_pairs, names_are_maximal_runs, rows_have_their_answers};

@@ -2,6 +2,7 @@ pub mod Codes
 pub mod Crews
 pub mod Employs
 pub mod Ends
+pub mod Finishing
 pub mod Kept
 pub mod Reading
 pub mod Revising

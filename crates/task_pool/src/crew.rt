@@ -2,11 +2,11 @@
 ghost use Rattle.std.specs.Prelude.{◌≡◌, ◌≤◌, ◌<◌, [], IfOk, IfSome, OnOk, OnErr};
 ghost use Rattle.std.specs.Arc.{arc_value};
 ghost use Rattle.std.specs.FinMap as map;
-ghost use Rattle.inbox.specs.Counts.{counted};
 ghost use Rattle.inbox.specs.Given.{BeginsWith};
 ghost use Rattle.session_port.specs.Events.{batch_in};
 ghost use Rattle.session_port.specs.Record.{AreRising, after_event, after_order, last_number, spawned};
 ghost use Rattle.task_pool.specs.Crews.{IsEnd, Shows, after_entry, without_jobs};
+ghost use Rattle.task_pool.specs.Finishing.{IsFinished};
 ghost use Rattle.task_pool.specs.Reading.{IsReader};
 ghost use Rattle.task_pool.specs.Revising.{after_revisions};
 
@@ -27,11 +27,13 @@ use std::marker::Model;
 use std::sync::{Arc, Wait};
 use std::thread::Threads;
 
-/// How many bytes the reader posted, and how many of them were given, each up to the greatest number of 64 bits.
+/// How many bytes the reader posted, and how many of them were given, each up to the greatest number of 64 bits; and whether the
+/// reader came to the source's end.
 #[derive(Clone, Copy, Debug)]
 pub struct Finished {
     pub posted: u64,
     pub taken: u64,
+    pub ended: bool,
 }
 
 /// The reader and the workers that run, each found by the number of its job, with what they share with the host.
@@ -270,7 +272,7 @@ impl<R: Threads + Wait + 'static, A: StartsWorkers<R>> Crew<R, A> {
 impl<R: Threads + Wait + Drop, A: Analysis> Crew<R, A> {
     /// Joins the reader and all workers, and says how many bytes were posted and given. It waits until the source has ended.
     pub fn finish(self) -> Finished
-        ensures taken { result.taken ≡ counted self.taken }
+        ensures finished { IsFinished self.held self.taken result }
         ensures order { result.taken ≤ result.posted }
     {
         let Crew {
@@ -287,9 +289,16 @@ impl<R: Threads + Wait + Drop, A: Analysis> Crew<R, A> {
         // What is still asked is out of date.
         word.raise(u64::MAX);
         let_all_go(&rt, running);
+        // The reader waits no more for entries to be taken.
+        inbox.inbox.make_room_for_all();
         let out = reading::join(&rt, reader, &inbox.inbox);
         let posted = out.posted;
+        let ended = out.ended;
         inbox.settle(&rt, out.end);
-        Finished { posted, taken }
+        Finished {
+            posted,
+            taken,
+            ended,
+        }
     }
 }

@@ -1,13 +1,13 @@
 //! The host.
-ghost use Rattle.std.specs.Prelude.{◌≡◌, ◌≤◌, ◌<◌, List, true, false, None, [], IsTrue, IfOk, IfErr, IfNone, IfSome, OnOk, OnErr, length};
+ghost use Rattle.std.specs.Prelude.{◌≡◌, ◌≤◌, ◌<◌, List, true, false, None, [], IsTrue, IfOk, IfErr, IfNone, IfSome, OnOk, OnErr, length, option_copied};
 ghost use Rattle.std.specs.FinMap as map;
-ghost use Rattle.inbox.specs.Counts.{counted};
 ghost use Rattle.inline_host.specs.Inline.{started};
 ghost use Rattle.inline_host.specs.Orders.{after_commands, next_answer};
 ghost use Rattle.session_port.specs.Events.{batch_in};
 ghost use Rattle.session_port.specs.Honest.{IsHonest};
 ghost use Rattle.session_port.specs.Record.{HasCause, AreRising, UnlessEnded, added, after_event, after_given, after_ok, after_order, gave, last_number, spawned, took};
 ghost use Rattle.session_port.specs.declared.event.TaskMsg.{TaskMsg as Message};
+ghost use Rattle.task_pool.specs.Finishing.{IsFinished};
 ghost use Rattle.task_pool.specs.Revising.{after_revisions};
 ghost use Rattle.inbox.specs.Given.{BeginsWith};
 ghost use Rattle.task_pool.specs.Threaded.{Comes, IsOneResult, after_coming, after_giving};
@@ -274,17 +274,36 @@ impl<R: Threads + Wait + 'static, S, A: StartsWorkers<R>> ThreadedHost<R, S, A> 
         }
         unreachable!()
     }
+}
 
+impl<R, S, A: Analysis> ThreadedHost<R, S, A> {
     /// The calls so far that did not fail, if a record is kept.
-    pub fn calls(&self) -> Option<&Items<RecordedCall>> {
+    pub fn calls(&self) -> Option<&Items<RecordedCall>>
+        ensures { option_copied result ≡ self.now.calls }
+    {
         self.calls.as_ref()
+    }
+
+    /// The same, which are the caller's from now on. No record is kept any more.
+    pub fn take_calls(&mut self) -> Option<Items<RecordedCall>>
+        ensures calls { result ≡ self.old.calls }
+        ensures left { self.new ≡ record self.old { calls = None } }
+    {
+        self.calls.take()
+    }
+
+    /// How often the source failed.
+    pub fn faults(&self) -> u64
+        ensures { result ≡ self.now.faults }
+    {
+        self.faults
     }
 }
 
 impl<R: Threads + Wait + Drop, S, A: Analysis> ThreadedHost<R, S, A> {
     /// Joins the reader and all workers, and says how many bytes were posted and given. It waits until the source has ended.
     pub fn finish(self) -> Finished
-        ensures taken { result.taken ≡ counted self.taken }
+        ensures finished { IsFinished self.held self.taken result }
         ensures order { result.taken ≤ result.posted }
     {
         let ThreadedHost {

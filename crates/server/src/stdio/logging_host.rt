@@ -19,6 +19,14 @@ impl<'a, R, H> LoggingHost<'a, R, H> {
     {
         LoggingHost { rt, host }
     }
+
+    /// The host that it wraps.
+    pub fn into_host(self) -> H
+        ensures { result ≡ self.host }
+    {
+        let LoggingHost { rt: _, host } = self;
+        host
+    }
 }
 
 fn words_of(code: LogCode) -> &'static str {
