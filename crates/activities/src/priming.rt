@@ -4,9 +4,9 @@ ghost use Rattle.activities.specs.Priming.{no_priming, asked, is_due, started, e
 ghost use Rattle.activities.specs.Announced.{Announces};
 
 use crate::telling::{Telling, one};
+use notify::Progress;
 use op_board::OpQueue;
 use plain::{Items, NoMemory, Text};
-use notify::Progress;
 use std::alloc::Global;
 use std::marker::Model;
 

@@ -318,9 +318,17 @@ abbrev pub timers_in : TurnState State → List ℕ
 timers_in w = filter_map timer_of w.out.commands
 
 pub passes-timers : PassesOver timer_of
-passes-timers = record { jobs = λ job. refl; logs = λ code text. refl; defers = λ task. refl;
-      sets = λ checks. refl; restarts = λ id scope. refl; cancels = λ id. refl; runs = λ include exclude. refl;
-      stops = refl; discovers = λ arg. refl }
+passes-timers = record {
+  jobs = λ job. refl;
+  logs = λ code text. refl;
+  defers = λ task. refl;
+  sets = λ checks. refl;
+  restarts = λ id scope. refl;
+  cancels = λ id. refl;
+  runs = λ include exclude. refl;
+  stops = refl;
+  discovers = λ arg. refl;
+}
 
 -- the timer that is ordered
 abbrev pub timer_due : State → List ℕ

@@ -17,11 +17,7 @@ use std::alloc::Global;
 
 /// Where this flag is set, the checks of the workspaces that are present are set.
 #[tactic(auto, unfolding(session_model::specs::Machine::checks_renewed_if, session_model::specs::Machine::checks_announced))]
-pub fn renew_checks_if(
-    store: &mut Store,
-    wanted: bool,
-    out: &mut TurnOut,
-) -> Result<(), TurnError>
+pub fn renew_checks_if(store: &mut Store, wanted: bool, out: &mut TurnOut) -> Result<(), TurnError>
     ensures { Refines result (checks_renewed_if wanted (record { state = store.old; out = out.old })) store.new out.new }
 {
     if !wanted {
@@ -110,11 +106,7 @@ fn cancelled_under(alloc: Global, token: &Json, checks: &Checks) -> Result<Items
 }
 
 /// The check that is shown under this token is cancelled.
-pub fn cancel_check(
-    store: &mut Store,
-    token: &Json,
-    out: &mut TurnOut,
-) -> Result<(), TurnError>
+pub fn cancel_check(store: &mut Store, token: &Json, out: &mut TurnOut) -> Result<(), TurnError>
     ensures { Refines result (tellings_told (cancelled_under token.now store.old.activities.checks) (record { state = store.old; out = out.old })) store.new out.new }
 {
     let told = cancelled_under(store.alloc, token, &store.activities.checks)?;

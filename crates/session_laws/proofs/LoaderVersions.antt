@@ -70,9 +70,17 @@ record SameVersions (w v : TurnState State) : Type 0 where
   given : given_in v ≡ given_in w
 
 passes-versions : (old new : Written) → Passes old new → filter_map loader_version new.commands ≡ filter_map loader_version old.commands
-passes-versions old new passes = passes loader_version (record { jobs = λ job. refl; logs = λ code text. refl; defers = λ task. refl;
-      sets = λ checks. refl; restarts = λ id scope. refl; cancels = λ id. refl; runs = λ include exclude. refl;
-      stops = refl; discovers = λ arg. refl })
+passes-versions old new passes = passes loader_version (record {
+  jobs = λ job. refl;
+  logs = λ code text. refl;
+  defers = λ task. refl;
+  sets = λ checks. refl;
+  restarts = λ id scope. refl;
+  cancels = λ id. refl;
+  runs = λ include exclude. refl;
+  stops = refl;
+  discovers = λ arg. refl;
+})
 
 other-passes : (command : Command) (w : TurnState State) → loader_version command ≡ None → SameVersions w (ordered command w)
 unfolding ordered

@@ -96,9 +96,17 @@ passes-files : (old new : Written) → Passes old new → filter_map file_to_rea
 passes-files old new passes =
     same-texts (filter_map file_to_read new.commands) (filter_map file_to_read old.commands)
     (λ number. sym (numbers-are number new.commands) ∙ passes (file_number number)
-    (record { jobs = λ job. refl; logs = λ code text. refl; defers = λ task. refl;
-      sets = λ checks. refl; restarts = λ id scope. refl; cancels = λ id. refl; runs = λ include exclude. refl;
-      stops = refl; discovers = λ arg. refl }) ∙ numbers-are number old.commands)
+    (record {
+      jobs = λ job. refl;
+      logs = λ code text. refl;
+      defers = λ task. refl;
+      sets = λ checks. refl;
+      restarts = λ id scope. refl;
+      cancels = λ id. refl;
+      runs = λ include exclude. refl;
+      stops = refl;
+      discovers = λ arg. refl;
+    }) ∙ numbers-are number old.commands)
 
 -- the files that have been ordered to be read anew
 abbrev to_read : TurnState State → List (List ℕ)

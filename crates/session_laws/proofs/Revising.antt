@@ -39,9 +39,17 @@ abbrev SameRevisions : TurnState State → TurnState State → Type 0
 SameRevisions w v = revisions v ≡ revisions w
 
 passes-revisions : (old new : Written) → Passes old new → filter_map revision_of new.commands ≡ filter_map revision_of old.commands
-passes-revisions old new passes = passes revision_of (record { jobs = λ job. refl; logs = λ code text. refl; defers = λ task. refl;
-      sets = λ checks. refl; restarts = λ id scope. refl; cancels = λ id. refl; runs = λ include exclude. refl;
-      stops = refl; discovers = λ arg. refl })
+passes-revisions old new passes = passes revision_of (record {
+  jobs = λ job. refl;
+  logs = λ code text. refl;
+  defers = λ task. refl;
+  sets = λ checks. refl;
+  restarts = λ id scope. refl;
+  cancels = λ id. refl;
+  runs = λ include exclude. refl;
+  stops = refl;
+  discovers = λ arg. refl;
+})
 
 other-passes : (command : Command) (w : TurnState State) → revision_of command ≡ None → SameRevisions w (ordered command w)
 unfolding ordered

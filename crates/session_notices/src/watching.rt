@@ -28,11 +28,7 @@ fn change_file(alloc: Global, url: Text, out: &mut TurnOut) -> Result<(), TurnEr
 
 // The files of URLs are to be read anew, each once.
 #[tactic(auto, unfolding(session_model::specs::Machine::files_changed))]
-fn change_files(
-    alloc: Global,
-    urls: Items<Text>,
-    out: &mut TurnOut,
-) -> Result<(), TurnError>
+fn change_files(alloc: Global, urls: Items<Text>, out: &mut TurnOut) -> Result<(), TurnError>
     ensures { (state : State) → RefinesTotal result (files_changed map.empty urls (record { state = state; out = out.old })) state out.new }
 {
     let mut seen = ByText::new(alloc);

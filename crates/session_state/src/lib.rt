@@ -7,7 +7,5 @@ mod turns;
 
 pub use global_state::GlobalState;
 pub use plain::NoMemory;
-pub use session_model::{
-    Counter, Event, Input, News, SessionError, TurnError, WorkProgress,
-};
+pub use session_model::{Counter, Event, Input, News, SessionError, TurnError, WorkProgress};
 pub use session_port::TurnOut;

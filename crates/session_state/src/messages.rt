@@ -17,8 +17,8 @@ use activities::{Telling, job_told};
 use analysis_host::Analysis;
 use lsp_frame::{Message, Request};
 use method_table::{
-    REBUILD_PROC_MACROS, RELOAD_WORKSPACE, RowId, RunTest, StateRequest, is_unit, read_state_request,
-    row_of,
+    REBUILD_PROC_MACROS, RELOAD_WORKSPACE, RowId, RunTest, StateRequest, is_unit,
+    read_state_request, row_of,
 };
 use plain::{Items, Json, NoMemory};
 use session_activities::{renew_checks_if, run_tests, tell_all};
@@ -89,11 +89,7 @@ fn answer_request<A: Analysis>(
     Ok(())
 }
 
-fn run_of_row(
-    alloc: Global,
-    row: Option<RowId>,
-    params: &Json,
-) -> Result<Option<RunTest>, NoMemory>
+fn run_of_row(alloc: Global, row: Option<RowId>, params: &Json) -> Result<Option<RunTest>, NoMemory>
     ensures { IfOk result (λ run. run ≡ run_of_row row params.now) }
 {
     let Some(row) = row else {
@@ -106,11 +102,7 @@ fn run_of_row(
 }
 
 // The run of tests that a request asks for, where it asks for one and is taken.
-fn run_asked_by(
-    alloc: Global,
-    request: &Request,
-    desk: &Desk,
-) -> Result<Option<RunTest>, NoMemory>
+fn run_asked_by(alloc: Global, request: &Request, desk: &Desk) -> Result<Option<RunTest>, NoMemory>
     ensures { IfOk result (λ run. run ≡ run_asked_by request.now desk.now) }
 {
     if !desk.takes(&request.id) {

@@ -7,9 +7,9 @@ ghost use Rattle.session_model.specs.Machine.{status_changed, status_done, statu
 ghost use Rattle.session_model.specs.State.{linked_of};
 ghost use Rattle.session_model.specs.Status.{facts_known, health_text, lacks_projects, needs_reload, opens_logs, shown_as, shown_of, status_message, status_now};
 
-use activities::Checks;
 use crate::failing::{has_build_error, has_fetch_error};
 use crate::well::is_told;
+use activities::Checks;
 use notify::{MessageKind, Outgo};
 use plain::{Items, NoMemory, Text};
 use ra_config::Config;

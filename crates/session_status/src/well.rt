@@ -7,9 +7,9 @@ ghost use Rattle.client.specs.Texts.{errors_told};
 ghost use Rattle.session_model.specs.Status.{facts_known, has_build_error, has_fetch_error, is_quiescent, lacks_projects, needs_reload, status_now};
 ghost use Rattle.session_status.specs.Well.{IsWell, has_no_error, well_status};
 
-use activities::Checks;
 use crate::failing::{has_build_error, has_fetch_error};
 use crate::telling::{lacks_projects, needs_reload};
+use activities::Checks;
 use plain::NoMemory;
 use project_model::{ProjectWorkspace, check_workspaces_msrv};
 use ra_config::Config;
