@@ -75,8 +75,8 @@ pub(crate) fn token_of(alloc: Global, id: u64) -> Result<Text, NoMemory>
     Ok(Text::from_string(format!(in alloc; "rust-analyzer/flycheck/{id}")?))
 }
 
-// What stands behind this front, where the text has it.
-fn behind<'a>(front: &str, text: &'a str) -> Option<&'a str>
+/// What stands behind this front, where the text has it.
+pub(crate) fn behind<'a>(front: &str, text: &'a str) -> Option<&'a str>
     ensures { option_copied result ≡ behind front.now text.now }
 {
     text.strip_prefix(front)

@@ -23,6 +23,7 @@ ghost use Rattle.activities.specs.TestRun.{Tests};
 ghost use Rattle.activities.specs.TestRuns.{TestAct, test_step, tests_after, stops_run, runs_started, runs_ended, running, programs_ended, StartsNone};
 ghost use Rattle.activities.specs.TestRuns.TestAct.{Runs};
 ghost use Rattle.activities.specs.declared.priming.PrimeMsg.{PrimeMsg};
+ghost use Rattle.activities.specs.declared.telling.Telling.{Telling};
 ghost use Rattle.activities.specs.declared.priming.PrimeMsg.TheVariants as prime;
 ghost use Rattle.activities.specs.declared.telling.Telling.TheVariants.{Begin, Report, End, CancelCheck};
 

@@ -4,6 +4,7 @@ ghost use Rattle.std.specs.Option.{option_copied};
 ghost use Rattle.activities.specs.CheckNames.{behind};
 ghost use Rattle.activities.specs.Scanning.{folder_text, message_told, relative_to, scan_begun, scan_ended, scan_reported, scan_text, scans_behind, scans_told, step_told, title, told_again, without_slash};
 
+use crate::check_names::behind;
 use crate::telling::Telling;
 use docs_vfs::VfsPath;
 use notify::Progress;
@@ -31,7 +32,7 @@ fn relative_to<'a>(root: &VfsPath, dir: &'a VfsPath) -> &'a str
     if !dir.starts_with(root) {
         return text;
     }
-    match text.strip_prefix(root.as_str()) {
+    match behind(root.as_str(), text) {
         None => text,
         Some(rest) => without_slash(rest),
     }
@@ -131,10 +132,12 @@ fn tell_step(
             Ok(last)
         }
         LoadingProgress::Progress(done) => {
-            if last.is_none() {
-                into.push(scan_reported(alloc, root, done, total, dir)?)?;
+            let report = scan_reported(alloc, root, done, total, dir)?;
+            match last {
+                None => into.push(scan_reported(alloc, root, done, total, dir)?)?,
+                Some(last) => drop(last),
             }
-            Ok(Some(scan_reported(alloc, root, done, total, dir)?))
+            Ok(Some(report))
         }
         LoadingProgress::Finished => {
             into.push(scan_ended(alloc, root, total, dir)?)?;
