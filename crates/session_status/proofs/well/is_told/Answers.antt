@@ -9,4 +9,4 @@ pub returns : goal.returns
 unfolding status_now
 returns c =
     let same : is_same_status c.args.last.now (well_status (is_quiescent c.args.files.now c.args.workspaces.now)) ≡ true = search rules in
-    carried c.is_well.result _ _ (same_where c.args.last.now (facts_known c.args.client.now c.args.files.now c.args.workspaces.now) same) c.is_well.ensures
+    carried c.is_well.result _ _ (same_where c.args.last.now (facts_known c.args.client.now c.args.files.now c.args.workspaces.now c.args.checks.now) same) c.is_well.ensures
