@@ -1,5 +1,5 @@
 // Checks that a client asks for, and those that restart for files that it saves or watches.
-ghost use Rattle.std.specs.Prelude.{◌≡◌, IfOk};
+ghost use Rattle.std.specs.Prelude.{◌≡◌, not, IfOk};
 ghost use Rattle.std.specs.List.{list_any};
 ghost use Rattle.docs_vfs.specs.FileUrls.{path_of};
 ghost use Rattle.docs_vfs.specs.Paths.{is_within};
@@ -16,17 +16,24 @@ use session_port::{LogCode, TurnOut};
 use session_store::{Store, checks_saves, checks_workspaces, log};
 use std::alloc::{AllocError, Global};
 
-// Whether the file of a URL lies outside one of these folders.
+// Whether a path lies outside one of these folders.
+fn is_path_outside(folders: &[VfsPath], path: &VfsPath) -> bool
+    ensures { result ≡ list_any (λ folder. not (is_within folder path.now)) folders.now }
+{
+    folders.iter().any(|folder| !path.starts_with(folder))
+}
+
+// Whether the file of a URL does.
 fn is_outside(alloc: Global, folders: &[VfsPath], url: &str) -> Result<bool, AllocError>
     ensures { IfOk result (λ outside. outside ≡ is_outside folders.now (path_of url.now)) }
 {
     match path_named(alloc, url)? {
         None => Ok(false),
-        Some(path) => Ok(folders.iter().any(|folder| !path.starts_with(folder))),
+        Some(path) => Ok(is_path_outside(folders, &path)),
     }
 }
 
-// Whether the file of one of these URLs does.
+// The same of one of these URLs.
 fn are_outside(alloc: Global, folders: &[VfsPath], urls: &[Text]) -> Result<bool, AllocError>
     ensures { IfOk result (λ outside. outside ≡ list_any (λ url. is_outside folders.now (path_of url)) urls.now) }
 {

@@ -184,16 +184,17 @@ fn ask_if_loaded(
 }
 
 // A file was saved.
-fn save(store: &mut Store, path: VfsPath, out: &mut TurnOut) -> Result<(), TurnError>
-    ensures { RefinesTotal result (saved_file path (record { state = store.old; out = out.old })) store.new out.new }
+fn save(store: &mut Store, path: &VfsPath, out: &mut TurnOut) -> Result<(), TurnError>
+    ensures { RefinesTotal result (saved_file path.now (record { state = store.old; out = out.old })) store.new out.new }
 {
-    let unknown = is_unknown_file(&store.files, &path)?;
-    note_save(store.alloc, unknown, &path, out)?;
+    let copy = path.clone()?;
+    let unknown = is_unknown_file(&store.files, path)?;
+    note_save(store.alloc, unknown, path, out)?;
     ask_if_loaded(
         store.alloc,
         store.client.settings(),
         &store.files,
-        path,
+        copy,
         &mut store.workspaces,
     )?;
     Ok(())
@@ -211,7 +212,7 @@ fn save_and_check(store: &mut Store, path: VfsPath, out: &mut TurnOut) -> Result
     ensures { Refines result (file_checked_if (checks_on_save store.old.client.settings store.old.files.host.world.roots path) path (saved_file path (record { state = store.old; out = out.old }))) store.new out.new }
 {
     let checks = checks_on_save(store.client.settings(), store.files.roots(), &path);
-    save(store, path.clone()?, out)?;
+    save(store, &path, out)?;
     check_file_if(store, checks, path, out)
 }
 
