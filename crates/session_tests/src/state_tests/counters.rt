@@ -33,15 +33,15 @@ left none of files then open > no more files
 left one of files then open then tell textDocument/didOpen {"textDocument":{"uri":"file:///w/b.rs","version":1,"text":"b"}} > no more files
 left none of files then file /w/a.rs
 left none of files then read /w/a.rs a > no more files
-left all then start then brought /w/Cargo.toml > loadWorkerrevise
-left one of loader settings then start then brought /w/Cargo.toml > load anewWorkerrevise
+left all then start then brought /w/Cargo.toml > loadchecksWorkerrevise
+left one of loader settings then start then brought /w/Cargo.toml > load anewchecksWorkerrevise
 left none of loader settings then start then brought /w/Cargo.toml > no more loader settings
 as refreshes then left one of outgoing then start then fetched > no more outgoing
 as hints then left one of outgoing then start then fetched > Content-Length: 72\r\n\r\n{"id":2147483647,"jsonrpc":"2.0","method":"workspace/inlayHint/refresh"}Content-Length: 106\r\n\r\n{"jsonrpc":"2.0","method":"window/showMessage","params":{"message":"Failed to load workspaces.","type":1}}fetch error
 as saves then left none of outgoing then start > no more outgoing
 as none then left none of outgoing then start > Worker
 as watches then left none of outgoing then start then brought /w/Cargo.toml > no more outgoing
-as none then left none of outgoing then start then brought /w/Cargo.toml > loadWorkerrevise
+as none then left none of outgoing then start then brought /w/Cargo.toml > loadchecksWorkerrevise
 as logs then left none of outgoing then start then fetched > no more outgoing
 as shows then left none of outgoing then start then fetched > Content-Length: 106\r\n\r\n{"jsonrpc":"2.0","method":"window/showMessage","params":{"message":"Failed to load workspaces.","type":1}}fetch error"#;
 
