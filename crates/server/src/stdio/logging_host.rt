@@ -22,7 +22,7 @@ impl<'a, R, H> LoggingHost<'a, R, H> {
 
     /// The host that it wraps.
     pub fn into_host(self) -> H
-        ensures { result ≡ self.host }
+        ensures { result ≡ self.entry.host }
     {
         let LoggingHost { rt: _, host } = self;
         host
