@@ -1,3 +1,4 @@
 pub mod Marked
 pub mod WalkLaws
 pub mod RowLaws
+pub mod RoundLaws

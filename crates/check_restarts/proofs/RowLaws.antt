@@ -175,7 +175,7 @@ same_affected crates paths roots rows starts marks are begun same marked n = (
 pub found_none : {X : Type 0} (test : X → Bool) (n : ℕ) → is_in [] n ≡ is_at test [] n
 found_none test n = refl
 
-iff_same : (a b : Bool) → (IsTrue a → IsTrue b) → (IsTrue b → IsTrue a) → a ≡ b
+pub iff_same : (a b : Bool) → (IsTrue a → IsTrue b) → (IsTrue b → IsTrue a) → a ≡ b
 iff_same true true to from = refl
 iff_same true false to from = sym (to refl)
 iff_same false true to from = from refl

@@ -1,3 +1,4 @@
+pub mod Affected
 pub mod Among
 pub mod Dependents
 pub mod Restarts

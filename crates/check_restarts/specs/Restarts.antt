@@ -11,6 +11,7 @@ use Rattle.project_model.specs.declared.target_spec.TargetSpec.TheVariants as sp
 use Rattle.project_model.specs.declared.workspace.ProjectWorkspace.{ProjectWorkspace}
 use Rattle.project_model.specs.Dependencies.{all_deps}
 use Rattle.project_model.specs.Targets.{target_spec_for_file}
+use Rattle.check_restarts.specs.Affected.{affected_of}
 use Rattle.check_restarts.specs.Among.{is_among, has_target_at}
 use Rattle.check_restarts.specs.Dependents.{AreAffected}
 use Rattle.project_model.specs.declared.check_scope.CheckScope.{CheckScope}
@@ -98,7 +99,26 @@ or_all checks None (first ∷ rest) = first ∷ rest
 abbrev pub others : (List ℕ → Bool) → List ProjectWorkspace → List ℕ → Option ℕ → List ℕ
 others test workspaces checks place = or_all checks place (filter (is_affected test workspaces place) checks)
 
--- the others that restart: of the crates whose roots are given, and of all that depend on them, the roots decide
+-- the others that restart: of the crates whose roots are given, and of all that depend on them,
+-- the roots decide
+abbrev pub others_of : List CrateInfo → List (List ℕ) → List (List ℕ) → List ProjectWorkspace
+    → List ℕ → Option ℕ → List ℕ
+others_of crates paths roots workspaces checks place =
+    others (is_among (affected_of crates paths roots)) workspaces checks place
+
+-- the package's own check first, and then, where whole workspaces are checked, the others
+abbrev pub restarts_of : Bool → List CrateInfo → List (List ℕ) → List (List ℕ)
+    → List ProjectWorkspace → List ℕ → List ℕ → List Restart
+restarts_of check_workspace crates paths roots workspaces checks saved =
+    let target = first_target workspaces roots in
+    let place = place_of check_workspace workspaces target in
+    let ids = others_of crates paths roots workspaces checks place in
+    alone check_workspace workspaces checks saved target
+    ++ (if check_workspace then map (restart_at saved) ids else [])
+
+-- The same as a relation, whatever list is that of the affected roots.
+
+-- the others that restart
 abbrev pub AreOthers : List CrateInfo → List (List ℕ) → List (List ℕ) → List ProjectWorkspace → List ℕ → Option ℕ → List ℕ → Type 0
 AreOthers crates paths roots workspaces checks place ids =
     (affected : List (List ℕ)) × AreAffected crates paths roots affected × (ids ≡ others (is_among affected) workspaces checks place)

@@ -1,7 +1,8 @@
 //! The roots of the crates that are affected by a change.
 ghost use Rattle.std.specs.Prelude.{◌≡◌, ◌++◌, [], ◌∷◌, ℕ, length, if◌then◌else◌, IfOk, OnOk};
+ghost use Rattle.check_restarts.specs.Affected.{affected_of};
 ghost use Rattle.check_restarts.specs.Among.{holds};
-ghost use Rattle.check_restarts.specs.Dependents.{is_in, is_at, picked, AreAffected};
+ghost use Rattle.check_restarts.specs.Dependents.{is_in, is_at, picked};
 
 use crate::among::as_map;
 use crate::dependents::dependents;
@@ -64,7 +65,7 @@ pub fn affected_roots(
     roots: &[VfsPath],
 ) -> Result<Items<VfsPath>, NoMemory>
     requires { length paths.now ≡ length crates.now }
-    ensures { IfOk result (λ affected. AreAffected crates.now paths.now roots.now affected) }
+    ensures { IfOk result (λ affected. affected ≡ affected_of crates.now paths.now roots.now) }
 {
     let among = as_map(alloc, roots)?;
     let starts = numbers_among(alloc, &among, paths)?;

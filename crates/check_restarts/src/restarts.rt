@@ -1,8 +1,8 @@
 //! The checks that restart.
-ghost use Rattle.std.specs.Prelude.{◌≡◌, ◌==◌, ◌++◌, true, length, filter, map, IfOk, OnOk};
+ghost use Rattle.std.specs.Prelude.{◌≡◌, ◌==◌, ◌++◌, [], length, filter, map, if◌then◌else◌, IfOk, OnOk};
 ghost use Rattle.std.specs.List.{list_any};
 ghost use Rattle.check_restarts.specs.Among.{holds};
-ghost use Rattle.check_restarts.specs.Restarts.{first_target, restart_at, alone_at, alone, place_of, is_it, is_affected, or_all, AddsOthers, AreRestarts};
+ghost use Rattle.check_restarts.specs.Restarts.{first_target, restart_at, alone_at, alone, place_of, is_it, is_affected, or_all, others_of, restarts_of};
 
 use crate::affected::affected_roots;
 use crate::alone::{first_target, package_scope, place_alone};
@@ -119,8 +119,8 @@ fn push_others(
     place: Option<usize>,
 ) -> Result<(), NoMemory>
     requires { length paths.now ≡ length crates.now }
-    ensures { OnOk result (AddsOthers true crates.now paths.now roots.now workspaces.now checks.now saved.now place
-        list.old list.new) }
+    ensures { OnOk result (list.new ≡ list.old ++ map (restart_at saved.now)
+        (others_of crates.now paths.now roots.now workspaces.now checks.now place)) }
 {
     let affected = affected_roots(alloc, crates, paths, roots)?;
     let rows = as_map(alloc, affected.as_slice())?;
@@ -143,8 +143,8 @@ fn push_others_if(
     place: Option<usize>,
 ) -> Result<(), NoMemory>
     requires { length paths.now ≡ length crates.now }
-    ensures { OnOk result (AddsOthers check_workspace crates.now paths.now roots.now workspaces.now checks.now saved.now place
-        list.old list.new) }
+    ensures { OnOk result (list.new ≡ list.old ++ (if check_workspace then map (restart_at saved.now)
+        (others_of crates.now paths.now roots.now workspaces.now checks.now place) else [])) }
 {
     if check_workspace {
         push_others(
@@ -191,8 +191,8 @@ pub fn check_restarts(
     check_workspace: bool,
 ) -> Result<Items<Restart>, NoMemory>
     requires { length paths.now ≡ length crates.now }
-    ensures { IfOk result (λ list. AreRestarts check_workspace crates.now paths.now roots.now workspaces.now checks.now
-        saved.now list) }
+    ensures { IfOk result (λ list. list ≡ restarts_of check_workspace crates.now paths.now roots.now workspaces.now
+        checks.now saved.now) }
 {
     let target = first_target(workspaces, roots)?;
     let mut list = Items::new(alloc);

@@ -1,7 +1,7 @@
 use Rattle.std.proofs.Common.{true, ◌++◌, ◌∷◌, [], take, sym, ap, ◌∙◌}
 use Rattle.std.specs.Prelude.{is_some, if◌then◌else◌}
 use Rattle.std.specs.FinMap as by_key
-use Rattle.std.proofs.lemmas.List.{take_more, take_all}
+use Rattle.std.proofs.lemmas.List.{take_more}
 use Rattle.check_restarts.specs.Among.{as_map}
 use Rattle.check_restarts.proofs.Marked.{as_map-more}
 use Rattle.check_restarts.proofs.among.as_map.Goals as goal
